@@ -7,9 +7,11 @@
 
 mod faults;
 mod images;
+mod laws;
 mod read;
 mod write;
 
 pub use faults::ImageFault;
 pub use images::{FILE_LENGTH, Image};
+pub use laws::files_pair_with_images;
 pub use wb_word::{OutOfMemory, Rom};
