@@ -1,0 +1,65 @@
+// The file system as a shelf.
+ghost use Rattle.std.specs.Prelude.{◌≡◌, ◌≤◌, length, drop, IfOk};
+
+use crate::opened::{Opened, open_at};
+use crate::{Failed, Shelf};
+use std::rt::Files;
+
+/// Files under their paths, made as `FileShelf::new(&rt)`. It does not tell their contents.
+///
+/// A file that is read in order, each read where the one before ended, is opened once and read front to
+/// back, so that a pipe can be read. A missing file, a folder and a failing read are counted faults.
+#[derive(Drop)]
+pub struct FileShelf<R: Files + Drop> {
+    rt: R,
+    open: Option<Opened<R::File>>,
+    faults: u64,
+}
+
+impl<R: Files + Drop> FileShelf<R> {
+    /// A shelf that has met no fault.
+    pub fn new(rt: R) -> Self
+        ensures rt { result.rt ≡ rt }
+        ensures faults { result.faults ≡ 0 }
+    {
+        FileShelf {
+            rt,
+            open: None,
+            faults: 0,
+        }
+    }
+
+    // Reads at a place, from the file that is open there or from one that is opened anew. The file stays
+    // open where the read went well.
+    fn read_open(&mut self, name: &str, at: u64, buf: &mut [u8]) -> Result<usize, Failed>
+        ensures faults { self.new.faults ≡ self.old.faults }
+        ensures count { IfOk result (λ m. m ≤ length buf.old) }
+        ensures rest { IfOk result (λ m. drop m buf.new ≡ drop m buf.old) }
+    {
+        let mut opened = match self.open.take() {
+            Some(opened) if opened.stands_at(name, at) => opened,
+            _ => open_at(&self.rt, name, at)?,
+        };
+        let count = opened.read_next(buf)?;
+        self.open = Some(opened);
+        Ok(count)
+    }
+}
+
+impl<R: Files + Drop> Shelf for FileShelf<R> {
+    ghost use Rattle.std.specs.Prelude.{None};
+
+    ghost content = { λ _ _. None };
+
+    ghost faults = { λ s. s.faults };
+
+    fn read_at(&mut self, name: &str, at: u64, buf: &mut [u8]) -> Result<usize, Failed> {
+        match self.read_open(name, at, buf) {
+            Ok(count) => Ok(count),
+            Err(Failed) => {
+                self.faults = self.faults.saturating_add(1);
+                Err(Failed)
+            }
+        }
+    }
+}
