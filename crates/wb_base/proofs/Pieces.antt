@@ -1,10 +1,10 @@
 -- A text that is put, and a content that is read, in pieces.
-use Rattle.std.proofs.Common.{◌≡◌, ◌≢◌, ℕ, ◌+◌, ◌-◌, ◌<◌, ◌≤◌, List, ◌++◌, length, take, drop, min, Option, None, Some, sym, ap, subst, ◌∙◌, arith}
+use Rattle.std.proofs.Common.{◌≡◌, ◌≢◌, ℕ, ◌+◌, ◌-◌, ◌<◌, ◌≤◌, List, ◌++◌, length, take, drop, Option, None, Some, sym, ap, subst, ◌∙◌, arith}
 use Rattle.std.proofs.Math.Seq.{take-add}
-use Rattle.std.proofs.lemmas.List.{take_rest, take_all, length-append, length-drop, length-take-le}
+use Rattle.std.proofs.lemmas.List.{take_rest, take_all, length-append, length-take-le}
 use Rattle.std.proofs.KnownBytes.{Appends-trans}
 use Rattle.wb_base.specs.Sink.{Appends}
-use Rattle.wb_base.specs.Shelf.{Content, Gives, GivesBytes, IsWhole}
+use Rattle.wb_base.specs.Shelf.{Content, Gives, IsWhole}
 
 -- what was put before, and m more bytes of the rest of the text
 pub appends_more : (a b c : Option (List ℕ)) (text : List ℕ) (at m : ℕ) → Appends a b (take at text)

@@ -1,6 +1,6 @@
 -- A sink in memory, with a room of its own.
 use Rattle.std.specs.Prelude.{ℕ, ◌-◌, ◌++◌, List, length, take, min, Bool, ◌||◌, ◌&&◌, ◌==◌, nat_lt, Option, None, Some, if◌then◌else◌}
-use Rattle.wb_base.specs.Calls.{CallCount, next_fails, after_call}
+use Rattle.wb_base.specs.Calls.{CallCount, next_fails}
 
 -- the bytes taken; how many the sink has room for in all; the most bytes that one put takes; the calls
 pub record SinkState : Type 0 where

@@ -1,5 +1,5 @@
 // The file system as a shelf.
-ghost use Rattle.std.specs.Prelude.{◌≡◌, ◌≤◌, length, drop, IfOk};
+ghost use Rattle.std.specs.Prelude.{◌≡◌, ◌+◌, ◌-◌, ◌^◌, ◌≤◌, length, drop, min, IfOk, IsSomeAnd, None};
 
 use crate::opened::{Opened, open_at};
 use crate::{Failed, Shelf};
@@ -12,7 +12,7 @@ use std::rt::Files;
 #[derive(Drop)]
 pub struct FileShelf<R: Files + Drop> {
     rt: R,
-    open: Option<Opened<R::File>>,
+    kept: Option<Opened<R::File>>,
     faults: u64,
 }
 
@@ -20,11 +20,12 @@ impl<R: Files + Drop> FileShelf<R> {
     /// A shelf that has met no fault.
     pub fn new(rt: R) -> Self
         ensures rt { result.rt ≡ rt }
+        ensures kept { result.kept ≡ None }
         ensures faults { result.faults ≡ 0 }
     {
         FileShelf {
             rt,
-            open: None,
+            kept: None,
             faults: 0,
         }
     }
@@ -35,20 +36,20 @@ impl<R: Files + Drop> FileShelf<R> {
         ensures faults { self.new.faults ≡ self.old.faults }
         ensures count { IfOk result (λ m. m ≤ length buf.old) }
         ensures rest { IfOk result (λ m. drop m buf.new ≡ drop m buf.old) }
+        ensures kept { IfOk result (λ m. IsSomeAnd self.new.kept (λ opened.
+            (opened.name ≡ name.now) × (opened.place ≡ min (at + m) (2 ^ 64 - 1)))) }
     {
-        let mut opened = match self.open.take() {
+        let mut opened = match self.kept.take() {
             Some(opened) if opened.stands_at(name, at) => opened,
             _ => open_at(&self.rt, name, at)?,
         };
         let count = opened.read_next(buf)?;
-        self.open = Some(opened);
+        self.kept = Some(opened);
         Ok(count)
     }
 }
 
 impl<R: Files + Drop> Shelf for FileShelf<R> {
-    ghost use Rattle.std.specs.Prelude.{None};
-
     ghost content = { λ _ _. None };
 
     ghost faults = { λ s. s.faults };

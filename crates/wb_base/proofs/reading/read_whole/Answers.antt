@@ -1,7 +1,7 @@
 -- Each read goes on where the bytes so far end, and the first one that gives nothing is at the end.
 use Rattle.std.proofs.Common.{rules, arith, ◌≡◌, ◌≤◌, ◌<◌, ◌++◌, length, take}
 use Rattle.std.proofs.lemmas.Grind.{common_steps}
-use Rattle.wb_base.proofs.Pieces.{SoFar, gives_at, so_far_more, whole_at_end}
+use Rattle.wb_base.proofs.Pieces.{gives_at, so_far_more, whole_at_end}
 use Rattle.wb_base.proofs.reading.read_whole.Goals as goal
 
 pub returns-then-count-eq0-clause-read : goal.returns-then-count-eq0-clause-read

@@ -1,4 +1,4 @@
-use Rattle.std.proofs.Common.{◌≡◌, ◌≤◌, ℕ, List, ◌+◌, ◌-◌, length, vec_len}
+use Rattle.std.proofs.Common.{◌≡◌, ◌≤◌, ℕ, List, ◌+◌, ◌-◌, vec_len}
 use Rattle.wb_base.proofs.Pieces.{SoFar}
 use Rattle.wb_base.proofs.reading.read_whole.Given as goal
 

@@ -1,5 +1,5 @@
 -- What was put so far and the bytes of one more put are the front of the text.
-use Rattle.std.proofs.Common.{arith, ◌≤◌, ◌+◌, ◌-◌, length, take, drop}
+use Rattle.std.proofs.Common.{arith}
 use Rattle.std.proofs.lemmas.List.{take_rest, length-drop}
 use Rattle.wb_base.proofs.Pieces.{appends_more}
 use Rattle.wb_base.proofs.writing.put_all.Goals as goal
