@@ -36,7 +36,7 @@ impl<R: Files + Drop> FileShelf<R> {
         ensures faults { self.new.faults ≡ self.old.faults }
         ensures count { IfOk result (λ m. m ≤ length buf.old) }
         ensures rest { IfOk result (λ m. drop m buf.new ≡ drop m buf.old) }
-        ensures kept { IfOk result (λ m. IsSomeAnd self.new.kept (λ opened.
+        ensures stays_open { IfOk result (λ m. IsSomeAnd self.new.kept (λ opened.
             (opened.name ≡ name.now) × (opened.place ≡ min (at + m) (2 ^ 64 - 1)))) }
     {
         let mut opened = match self.kept.take() {
@@ -50,11 +50,19 @@ impl<R: Files + Drop> FileShelf<R> {
 }
 
 impl<R: Files + Drop> Shelf for FileShelf<R> {
+    ghost use Rattle.std.specs.Prelude.{◌≡◌, ◌+◌, ◌-◌, ◌^◌, ◌≤◌, min, IfOk, IsSomeAnd, None};
+    ghost use Rattle.wb_base.specs.Shelf.{IsRead};
+
     ghost content = { λ _ _. None };
 
     ghost faults = { λ s. s.faults };
 
-    fn read_at(&mut self, name: &str, at: u64, buf: &mut [u8]) -> Result<usize, Failed> {
+    fn read_at(&mut self, name: &str, at: u64, buf: &mut [u8]) -> Result<usize, Failed>
+        ensures stays_open { IfOk result (λ m. IsSomeAnd self.new.kept (λ opened.
+            (opened.name ≡ name.now) × (opened.place ≡ min (at + m) (2 ^ 64 - 1)))) }
+        ensures later { self.old.faults ≤ self.new.faults }
+        ensures read { IsRead None at buf.old buf.new self.old.faults self.new.faults result }
+    {
         match self.read_open(name, at, buf) {
             Ok(count) => Ok(count),
             Err(Failed) => {
