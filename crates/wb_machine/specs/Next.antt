@@ -18,8 +18,8 @@ use Rattle.wb_word.specs.declared.words.OpWord.{OpWord}
 use Rattle.wb_word.specs.declared.words.Instr.{Instr}
 use Rattle.wb_word.specs.declared.words.Instr.TheVariants.{Op, Rt, Jp, Ld}
 use Rattle.wb_word.specs.Encoding.{instr_of}
-use Rattle.wb_alu.specs.declared.flag.Flags.{Flags}
-use Rattle.wb_alu.specs.Operation.{alu_of}
+use Rattle.wb_alu.specs.declared.flags.Flags.{Flags}
+use Rattle.wb_alu.specs.Operation.{alu_flags, alu_result}
 use Rattle.wb_rom.specs.declared.images.Image.{Image}
 use Rattle.wb_machine.specs.declared.registers.Regs.{Regs}
 use Rattle.wb_machine.specs.State.{State, rqm}
@@ -82,22 +82,31 @@ abbrev pub flags_of : Acc → Regs → Flags
 flags_of acc.A r = r.flags_a
 flags_of acc.B r = r.flags_b
 
-unfoldable pub computed : OpWord → Image → State → ℕ × Flags
-computed o image s =
-    alu_of o.alu (accumulator o.acc s.regs) (operand o.p (bus_of o.src image s) s)
-    (flags_of (other o.acc) s.regs).c (flags_of o.acc s.regs)
+unfoldable pub computed : OpWord → ℕ → State → ℕ
+computed o bus s =
+    alu_result o.alu (accumulator o.acc s.regs) (operand o.p bus s) (flags_of (other o.acc) s.regs).c
 
--- an accumulator and its flags after the ALU's work `w`, where the word names accumulator `named`
-abbrev pub work_on : Acc → Acc → ℕ × Flags → ℕ × Flags → ℕ × Flags
-work_on acc.A acc.A w old = w
-work_on acc.A acc.B w old = old
-work_on acc.B acc.A w old = old
-work_on acc.B acc.B w old = w
+unfoldable pub computed_flags : OpWord → ℕ → State → Flags
+computed_flags o bus s =
+    alu_flags o.alu (accumulator o.acc s.regs) (operand o.p bus s) (flags_of (other o.acc) s.regs).c
+    (flags_of o.acc s.regs)
 
-unfoldable pub worked : Acc → Instr → Image → State → ℕ × Flags
-worked x (Op o) image s = work_on x o.acc (computed o image s) (accumulator x s.regs, flags_of x s.regs)
-worked x (Rt o) image s = work_on x o.acc (computed o image s) (accumulator x s.regs, flags_of x s.regs)
-worked x _ image s = (accumulator x s.regs, flags_of x s.regs)
+-- what the ALU leaves of one accumulator, where it works on the accumulator `named`
+abbrev pub worked_on : {A : Type 0} → Acc → Acc → A → A → A
+worked_on acc.A acc.A work old = work
+worked_on acc.A acc.B work old = old
+worked_on acc.B acc.A work old = old
+worked_on acc.B acc.B work old = work
+
+unfoldable pub worked : Acc → Instr → Image → State → ℕ
+worked x (Op o) image s = worked_on x o.acc (computed o (bus_of o.src image s) s) (accumulator x s.regs)
+worked x (Rt o) image s = worked_on x o.acc (computed o (bus_of o.src image s) s) (accumulator x s.regs)
+worked x _ image s = accumulator x s.regs
+
+unfoldable pub worked_flags : Acc → Instr → Image → State → Flags
+worked_flags x (Op o) image s = worked_on x o.acc (computed_flags o (bus_of o.src image s) s) (flags_of x s.regs)
+worked_flags x (Rt o) image s = worked_on x o.acc (computed_flags o (bus_of o.src image s) s) (flags_of x s.regs)
+worked_flags x _ image s = flags_of x s.regs
 
 -- A move to an accumulator wins over the ALU's result, and leaves the flags.
 abbrev pub moved_a : Dst → ℕ → ℕ → ℕ
@@ -109,16 +118,16 @@ moved_b dst.B bus b = bus
 moved_b _ bus b = b
 
 unfoldable pub a_after : Instr → Image → State → ℕ
-a_after i image s = moved_a (target i) (carried i image s) (worked acc.A i image s).0
+a_after i image s = moved_a (target i) (carried i image s) (worked acc.A i image s)
 
 unfoldable pub b_after : Instr → Image → State → ℕ
-b_after i image s = moved_b (target i) (carried i image s) (worked acc.B i image s).0
+b_after i image s = moved_b (target i) (carried i image s) (worked acc.B i image s)
 
 unfoldable pub flags_a_after : Instr → Image → State → Flags
-flags_a_after i image s = (worked acc.A i image s).1
+flags_a_after i image s = worked_flags acc.A i image s
 
 unfoldable pub flags_b_after : Instr → Image → State → Flags
-flags_b_after i image s = (worked acc.B i image s).1
+flags_b_after i image s = worked_flags acc.B i image s
 
 -- The registers that only a move writes.
 abbrev pub moved_tr : Dst → ℕ → ℕ → ℕ
@@ -286,11 +295,14 @@ taken (cond.Other code) r = false
 abbrev pub following : ℕ → ℕ
 following pc = (pc + 1) % 2048
 
+abbrev pub above : ℕ → ℕ
+above sp = (sp + 1) % 4
+
 abbrev pub below : ℕ → ℕ
 below sp = (sp + 3) % 4
 
 abbrev pub sp_called : Cond → ℕ → ℕ
-sp_called cond.Call sp = (sp + 1) % 4
+sp_called cond.Call sp = above sp
 sp_called _ sp = sp
 
 abbrev pub stack_called : Cond → State → List ℕ
@@ -314,14 +326,29 @@ stack_after _ s = s.stack
 -- All of them at once.
 unfoldable pub regs_after : Instr → Image → State → Regs
 regs_after i image s = record {
-  pc = pc_after i s; sp = sp_after i s; rp = rp_after i image s; dp = dp_after i image s;
-  a = a_after i image s; b = b_after i image s; tr = tr_after i image s; trb = trb_after i image s;
-  k = k_after i image s; l = l_after i image s; dr = dr_after i image s; sr = sr_after i image s;
-  so = so_after i image s; flags_a = flags_a_after i image s; flags_b = flags_b_after i image s }
+  pc = pc_after i s;
+  sp = sp_after i s;
+  rp = rp_after i image s;
+  dp = dp_after i image s;
+  a = a_after i image s;
+  b = b_after i image s;
+  tr = tr_after i image s;
+  trb = trb_after i image s;
+  k = k_after i image s;
+  l = l_after i image s;
+  dr = dr_after i image s;
+  sr = sr_after i image s;
+  so = so_after i image s;
+  flags_a = flags_a_after i image s;
+  flags_b = flags_b_after i image s;
+}
 
 unfoldable pub next_by : Instr → Image → State → State
 next_by i image s = record {
-  regs = regs_after i image s; stack = stack_after i s; ram = ram_after i image s }
+  regs = regs_after i image s;
+  stack = stack_after i s;
+  ram = ram_after i image s;
+}
 
 -- the instruction at PC
 abbrev pub instr_at : Image → State → Instr

@@ -1,6 +1,6 @@
 -- What the chip holds, within which ranges, and how it stands at power-up.
-use Rattle.std.specs.Prelude.{◌≡◌, ℕ, ◌^◌, ◌<◌, Bool, false, List, length, replicate, nat_le, slice_index}
-use Rattle.wb_alu.specs.declared.flag.Flags.{Flags}
+use Rattle.std.specs.Prelude.{◌≡◌, ℕ, ◌^◌, ◌<◌, Bool, false, ◌/◌, ◌%◌, ◌==◌, List, length, replicate, slice_index}
+use Rattle.wb_alu.specs.declared.flags.Flags.{Flags}
 use Rattle.wb_machine.specs.declared.registers.Regs.{Regs}
 
 -- the registers, the four words of the return stack, the 256 words of the data RAM
@@ -33,7 +33,7 @@ pub record IsState (s : State) : Type 0 where
 
 -- bit 15 of SR: a request of the chip stands
 abbrev pub rqm : Regs → Bool
-rqm r = nat_le 32768 r.sr
+rqm r = r.sr / 32768 % 2 == 1
 
 abbrev pub no_flags : Flags
 no_flags = record { c = false; z = false; s0 = false; s1 = false; ov0 = false; ov1 = false }
@@ -41,8 +41,22 @@ no_flags = record { c = false; z = false; s0 = false; s1 = false; ov0 = false; o
 -- every register and flag is 0 but RP, which is 3FF
 abbrev pub first_regs : Regs
 first_regs = record {
-  pc = 0; sp = 0; rp = 1023; dp = 0; a = 0; b = 0; tr = 0; trb = 0; k = 0; l = 0; dr = 0; sr = 0; so = 0;
-  flags_a = no_flags; flags_b = no_flags }
+  pc = 0;
+  sp = 0;
+  rp = 1023;
+  dp = 0;
+  a = 0;
+  b = 0;
+  tr = 0;
+  trb = 0;
+  k = 0;
+  l = 0;
+  dr = 0;
+  sr = 0;
+  so = 0;
+  flags_a = no_flags;
+  flags_b = no_flags;
+}
 
 -- the chip at power-up, whose RAM holds `cells`
 unfoldable pub power : List ℕ → State

@@ -1,4 +1,4 @@
-ghost use Rattle.std.specs.Prelude.{◌≡◌, ◌<◌, ◌/◌, ◌%◌, ◌^◌};
+ghost use Rattle.std.specs.Prelude.{◌≡◌, ◌<◌, ◌/◌, ◌%◌, ◌^◌, bit_xor};
 ghost use Rattle.wb_machine.specs.Effects.{asking, calculated, moved, pointed};
 ghost use Rattle.wb_machine.specs.Next.{dp_stepped, merged, moved_ram, low_stepped, product, raised, rp_stepped, signed};
 ghost use Rattle.wb_machine.specs.State.{IsRegs};
@@ -28,11 +28,10 @@ pub(crate) fn twice_product(k: u16, l: u16) -> u32
 }
 
 #[tactic(auto, unfolding(crate::specs::Effects::calculated))]
-pub(crate) fn calculate(acc: Acc, work: (u16, Flags), regs: &mut Regs)
-    ensures value { regs.new ≡ calculated acc work regs.old }
+pub(crate) fn calculate(acc: Acc, value: u16, flags: Flags, regs: &mut Regs)
+    ensures value { regs.new ≡ calculated acc value flags regs.old }
     ensures in_range { IsRegs regs.old → IsRegs regs.new }
 {
-    let (value, flags) = work;
     match acc {
         Acc::A => {
             regs.a = value;
@@ -131,12 +130,20 @@ fn low_step(change: Dpl, low: u8) -> u8
     }
 }
 
+fn high_step(high: u8, dp: u8) -> u8
+    requires { high < 16 }
+    ensures value { result ≡ bit_xor (dp / 16) high }
+    ensures below { result < 16 }
+{
+    dp >> 4 ^ high
+}
+
 #[tactic(auto, unfolding(crate::specs::Next::dp_stepped))]
 fn dp_step(change: Dpl, high: u8, dp: u8) -> u8
     requires { high < 16 }
     ensures { result ≡ dp_stepped change high dp }
 {
-    ((dp >> 4 ^ high) << 4) + low_step(change, dp & 0xF)
+    (high_step(high, dp) << 4) + low_step(change, dp & 0xF)
 }
 
 fn rp_step(change: bool, rp: u16) -> u16

@@ -38,7 +38,14 @@ pub struct Regs {
     pub flags_b: Flags,
 }
 
-const NO_FLAGS: Flags = Flags { c: false, z: false, s0: false, s1: false, ov0: false, ov1: false };
+const NO_FLAGS: Flags = Flags {
+    c: false,
+    z: false,
+    s0: false,
+    s1: false,
+    ov0: false,
+    ov1: false,
+};
 
 impl Regs {
     pub(crate) fn at_power() -> Regs
