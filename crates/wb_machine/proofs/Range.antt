@@ -29,7 +29,7 @@ use Rattle.wb_machine.specs.State.{State, IsState, IsRegs}
 use Rattle.wb_machine.specs.Next.{accumulator, flags_of, other, carried, target, bus_of, product, operand, computed, worked_on, worked, moved_a, moved_b, moved_tr, moved_trb, moved_so, moved_k, moved_l, moved_ram, far_address, raised, merged, asked_by, asked, moved_dr, moved_sr, low_stepped, dp_stepped, rp_stepped, dp_pointed, rp_pointed, moved_dp, moved_rp, taken, following, above, below, sp_called, stack_called, pc_after, sp_after, rp_after, dp_after, a_after, b_after, tr_after, trb_after, k_after, l_after, dr_after, sr_after, so_after, ram_after, stack_after, regs_after, next_by, next, instr_at}
 
 -- an instruction whose value has 16 bits, as each that stands in a word
-pub IsNarrow : Instr → Type 0
+unfoldable pub IsNarrow : Instr → Type 0
 IsNarrow (Ld value spare d) = value < 2 ^ 16
 IsNarrow _ = Unit {0}
 
