@@ -1,6 +1,6 @@
 -- An instruction that neither reads nor writes DR and SR works beside them: whatever the two hold, it leaves
 -- them, and changes all else in the same way.
-use Rattle.std.proofs.Common.{◌≡◌, ℕ, Bool, true, false, ◌||◌, refl}
+use Rattle.std.proofs.Common.{◌≡◌, ℕ, refl}
 use Rattle.wb_word.specs.declared.codes.Acc.{Acc}
 use Rattle.wb_word.specs.declared.codes.Acc.TheVariants as acc
 use Rattle.wb_word.specs.declared.codes.Alu.{Alu}
@@ -18,7 +18,6 @@ use Rattle.wb_word.specs.declared.words.OpWord.{OpWord}
 use Rattle.wb_word.specs.declared.words.Instr.{Instr}
 use Rattle.wb_word.specs.declared.words.Instr.TheVariants.{Op, Rt, Jp, Ld}
 use Rattle.wb_alu.specs.Operation.{alu_flags, alu_result}
-use Rattle.wb_alu.specs.declared.flags.Flags.{Flags}
 use Rattle.wb_rom.specs.declared.images.Image.{Image}
 use Rattle.wb_machine.specs.State.{State}
 use Rattle.wb_machine.specs.Next.{accumulator, flags_of, other, carried, bus_of, operand, computed, computed_flags, worked, worked_flags, asked_by, moved_dr, moved_sr, pc_after, sp_after, rp_after, dp_after, a_after, b_after, tr_after, trb_after, k_after, l_after, dr_after, sr_after, so_after, flags_a_after, flags_b_after, ram_after, stack_after, regs_after, next_by, next, instr_at, taken}

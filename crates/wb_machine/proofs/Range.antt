@@ -1,5 +1,5 @@
 -- One instruction of any image keeps the ranges of the state.
-use Rattle.std.proofs.Common.{◌≡◌, ℕ, zero, suc, ◌+◌, ◌*◌, ◌/◌, ◌%◌, ◌^◌, ◌<◌, ◌≤◌, Bool, true, false, List, length, get_or, set, arith, lit<, if◌then◌else◌, refl, length-set}
+use Rattle.std.proofs.Common.{◌≡◌, ℕ, zero, suc, ◌+◌, ◌/◌, ◌%◌, ◌^◌, ◌<◌, Bool, true, false, List, length, arith, lit<, if◌then◌else◌}
 use Rattle.std.specs.Prelude.{ℤ, pos, negsuc, unsigned_abs, slice_index, slice_set, bit_xor}
 use Rattle.std.specs.Int.{int_rem_euclid}
 use Rattle.std.proofs.lemmas.Nat.{mod_below, or_lt, xor_lt}
@@ -26,7 +26,7 @@ use Rattle.wb_word.specs.Encoding.{instr_of, of_kind}
 use Rattle.wb_alu.specs.Operation.{alu_result}
 use Rattle.wb_rom.specs.declared.images.Image.{Image}
 use Rattle.wb_machine.specs.State.{State, IsState, IsRegs}
-use Rattle.wb_machine.specs.Next.{accumulator, flags_of, other, carried, target, bus_of, product, operand, computed, worked_on, worked, moved_a, moved_b, moved_tr, moved_trb, moved_so, moved_k, moved_l, moved_ram, far_address, raised, merged, asked_by, asked, moved_dr, moved_sr, low_stepped, dp_stepped, rp_stepped, dp_pointed, rp_pointed, moved_dp, moved_rp, taken, following, above, below, sp_called, stack_called, pc_after, sp_after, rp_after, dp_after, a_after, b_after, tr_after, trb_after, k_after, l_after, dr_after, sr_after, so_after, ram_after, stack_after, regs_after, next_by, next, instr_at}
+use Rattle.wb_machine.specs.Next.{accumulator, carried, target, bus_of, product, operand, computed, worked_on, worked, moved_a, moved_b, moved_tr, moved_trb, moved_so, moved_k, moved_l, moved_ram, far_address, raised, merged, asked_by, asked, moved_dr, moved_sr, low_stepped, dp_stepped, rp_stepped, dp_pointed, rp_pointed, moved_dp, moved_rp, taken, following, below, sp_called, stack_called, pc_after, sp_after, rp_after, dp_after, a_after, b_after, tr_after, trb_after, k_after, l_after, dr_after, sr_after, so_after, ram_after, stack_after, regs_after, next_by, next, instr_at}
 
 -- an instruction whose value has 16 bits, as each that stands in a word
 unfoldable pub IsNarrow : Instr → Type 0

@@ -16,7 +16,6 @@ use Rattle.wb_word.specs.declared.numbers.Addr.{Addr}
 use Rattle.wb_word.specs.declared.numbers.Nibble.{Nibble}
 use Rattle.wb_word.specs.declared.numbers.Spare.{Spare}
 use Rattle.wb_word.specs.declared.words.OpWord.{OpWord}
-use Rattle.wb_word.specs.declared.words.Instr.{Instr}
 use Rattle.wb_word.specs.declared.words.Instr.TheVariants.{Op, Rt, Jp, Ld}
 use Rattle.wb_rom.specs.declared.images.Image.{Image}
 use Rattle.wb_alu.specs.Operation.{alu_flags, alu_result}
