@@ -1,13 +1,17 @@
-// A library with one function.
+//! The µPD77C25 as a table machine: one call executes one instruction word of an image.
+//!
+//! `specs/Next.antt` gives each register after an instruction as a function of the state before it, and
+//! `Machine::step` is exactly that, for every image and every state. `registers` has the registers,
+//! `processor` the machine, `effects` what an instruction does to the registers, in its order, and `jumps`
+//! the conditions. A machine keeps the ranges of its parts. No call takes memory.
 #![tactic(auto)]
 
-ghost use Rattle.std.specs.Prelude.{◌≡◌};
-ghost use Rattle.wb_machine.specs.Echo.{echo_of};
+mod effects;
+mod jumps;
+mod processor;
+mod registers;
+#[cfg(test)]
+mod tests;
 
-// The `ensures` clause is the contract: what `echo` returns is `echo_of` of its argument, a definition
-// in `specs/Echo.antt`, which a caller's clause can cite too.
-pub fn echo(x: usize) -> usize
-    ensures { result ≡ echo_of x }
-{
-    x
-}
+pub use processor::Machine;
+pub use registers::Regs;
