@@ -1,5 +1,5 @@
 // Scripts that were written by hand, and what they mean.
-use crate::{Item, ScriptFault, read_script};
+use crate::{Item, Script, ScriptFault, each_text_has_one_answer, read_script};
 use std::alloc::Global;
 use std::process::Abort;
 use std::test::Fail;
@@ -13,6 +13,8 @@ fn expect_items(rt: &impl Abort, alloc: Global, text: &[u8], items: &[Item]) -> 
         assert!(rt; place < script.len());
         assert_eq!(rt; script.at(place), *item, "item {place} of {text:?}");
     }
+    let again = Script::from_items(script.into_items());
+    assert_eq!(rt; again.len(), items.len(), "items of {text:?}, given back");
     Ok(())
 }
 
@@ -129,6 +131,7 @@ fn the_first_bad_line_is_named(rt: HostRuntime) -> Result<(), Fail> {
         (b"REPEAT 32768\nR\nS\nEND", Ok(65536)),
         (b"REPEAT 32769\nR\nS\nEND", Err(4)),
     ];
+    each_text_has_one_answer();
     for (text, end) in cases {
         expect_end(&rt, rt.alloc(), text, end)?;
     }
