@@ -1,13 +1,10 @@
-// A library with one function.
+// Runs of scripts on an image, and their transcripts.
 #![tactic(auto)]
 
-ghost use Rattle.std.specs.Prelude.{◌≡◌};
-ghost use Rattle.wb_session.specs.Echo.{echo_of};
+mod course;
+mod texts;
+mod transcripts;
 
-// The `ensures` clause is the contract: what `echo` returns is `echo_of` of its argument, a definition
-// in `specs/Echo.antt`, which a caller's clause can cite too.
-pub fn echo(x: usize) -> usize
-    ensures { result ≡ echo_of x }
-{
-    x
-}
+pub use course::{Session, play_script, run_script};
+pub use texts::transcript_text;
+pub use transcripts::{Ended, Line, Lines, Transcript};
