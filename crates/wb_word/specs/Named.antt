@@ -1,13 +1,13 @@
 -- Which branch codes name a condition.
-use Rattle.std.specs.Prelude.{ℕ, Bool, ◌==◌, ◌||◌}
+use Rattle.std.specs.Prelude.{ℕ, Bool, List, [], ◌∷◌, ◌==◌}
+use Rattle.std.specs.List.{list_any}
 
--- the code is one of the 36 that name a condition
+-- the codes that name a condition
+abbrev pub named_codes : List ℕ
+named_codes =
+    128 ∷ 130 ∷ 132 ∷ 134 ∷ 136 ∷ 138 ∷ 140 ∷ 142 ∷ 144 ∷ 146 ∷ 148 ∷ 150 ∷ 152 ∷ 154 ∷ 156 ∷ 158 ∷
+    160 ∷ 162 ∷ 164 ∷ 166 ∷ 168 ∷ 170 ∷ 172 ∷ 174 ∷ 176 ∷ 177 ∷ 178 ∷ 179 ∷ 180 ∷ 182 ∷ 184 ∷ 186 ∷
+    188 ∷ 190 ∷ 256 ∷ 320 ∷ []
+
 abbrev pub is_named : ℕ → Bool
-is_named code =
-    code == 128 || (code == 130 || (code == 132 || (code == 134 || (code == 136 || (code == 138
-    || (code == 140 || (code == 142 || (code == 144 || (code == 146 || (code == 148 || (code ==
-    150 || (code == 152 || (code == 154 || (code == 156 || (code == 158 || (code == 160 || (code
-    == 162 || (code == 164 || (code == 166 || (code == 168 || (code == 170 || (code == 172 ||
-    (code == 174 || (code == 176 || (code == 177 || (code == 178 || (code == 179 || (code == 180
-    || (code == 182 || (code == 184 || (code == 186 || (code == 188 || (code == 190 || (code ==
-    256 || (code == 320)))))))))))))))))))))))))))))))))))
+is_named code = list_any (λ named. code == named) named_codes
