@@ -5,19 +5,19 @@ use Rattle.wb_port.specs.declared.accesses.Access.{Access}
 use Rattle.wb_port.specs.declared.accesses.Access.TheVariants as access
 
 -- a request stands: RQM, bit 15 of the status register
-abbrev pub rqm : State → Bool
+unfoldable pub rqm : State → Bool
 rqm m = m.regs.sr / 32768 % 2 == 1
 
 -- the first half of a word was transferred: DRS, bit 12
-abbrev pub drs : State → Bool
+unfoldable pub drs : State → Bool
 drs m = m.regs.sr / 4096 % 2 == 1
 
 -- a transfer has one byte alone: DRC, bit 10
-abbrev pub drc : State → Bool
+unfoldable pub drc : State → Bool
 drc m = m.regs.sr / 1024 % 2 == 1
 
 -- what a status read gives: bits 15 to 8 of the status register
-abbrev pub status_byte : State → ℕ
+unfoldable pub status_byte : State → ℕ
 status_byte m = m.regs.sr / 256
 
 -- the status register with this RQM and this DRS, all its other bits kept

@@ -2,8 +2,16 @@
 #![tactic(auto)]
 
 mod accesses;
+mod chips;
+mod lists;
+mod points;
 mod port;
+mod runs;
 
 pub use accesses::{Access, Event, Kind, Letter, Power};
-pub use port::{read, status, write};
+pub use chips::{Chip, Monitor};
+pub use lists::{Kinds, Replies};
+pub use points::Point;
+pub use port::{halfway, read, requested, status, write};
+pub use runs::Run;
 pub use wb_word::Side;
