@@ -1,5 +1,5 @@
 -- What the loops of a run keep, and what each step of a run adds.
-use Rattle.std.proofs.Common.{◌≡◌, ℕ, zero, suc, ◌+◌, ◌<◌, ◌≤◌, Bool, true, false, Option, Some, None, List, [], ◌∷◌, ◌++◌, length, take, drop, refl, ap, sym, ◌∙◌, subst, arith, add-one, append_assoc, length-append}
+use Rattle.std.proofs.Common.{◌≡◌, ℕ, zero, suc, ◌+◌, ◌<◌, ◌≤◌, false, Some, List, [], ◌∷◌, ◌++◌, length, take, drop, refl, ap, sym, ◌∙◌, subst, arith, add-one, length-append}
 use Rattle.std.proofs.lemmas.List.{append-nil}
 use Rattle.std.proofs.Math.Seq.{take-suc, drop-cons}
 use Rattle.std.proofs.lemmas.Grind.{flat_map-append}
@@ -18,7 +18,6 @@ use Rattle.wb_script.specs.declared.items.Item.TheVariants as item
 use Rattle.wb_session.specs.declared.transcripts.Line.{Line}
 use Rattle.wb_session.specs.declared.transcripts.Line.TheVariants as line
 use Rattle.wb_session.specs.declared.transcripts.Ended.{Ended}
-use Rattle.wb_session.specs.declared.transcripts.Transcript.{Transcript}
 use Rattle.wb_session.specs.declared.course.Stop.{Stop}
 use Rattle.wb_session.specs.declared.course.Stop.TheVariants.{Early, Silent}
 use Rattle.wb_session.specs.Course.{executed, Comes, StaysSilent, Answered, Stopped, IsStop, stop_events, ended_at}

@@ -1,6 +1,6 @@
 -- What a script comes to on an image: a relation between the items of the script and the lines of its
 -- transcript, over the schedule of events that the lines stand for.
-use Rattle.std.specs.Prelude.{◌≡◌, ℕ, ◌+◌, ◌<◌, ◌≤◌, Bool, true, false, Option, Some, None, List, [], ◌∷◌, ◌++◌, length, drop, replicate}
+use Rattle.std.specs.Prelude.{◌≡◌, ℕ, ◌+◌, ◌<◌, ◌≤◌, Bool, true, false, Some, List, [], ◌∷◌, ◌++◌, length, drop, replicate}
 use Rattle.std.specs.List.{flat_map}
 use Rattle.wb_rom.specs.declared.images.Image.{Image}
 use Rattle.wb_port.specs.declared.accesses.Access.TheVariants as access

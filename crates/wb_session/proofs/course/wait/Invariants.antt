@@ -1,4 +1,4 @@
-use Rattle.std.proofs.Common.{◌≡◌, ◌-◌}
+use Rattle.std.proofs.Common.{◌-◌}
 use Rattle.wb_session.proofs.Runs.{IsWaiting}
 use Rattle.wb_session.proofs.course.wait.Given as goal
 
