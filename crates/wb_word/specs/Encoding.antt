@@ -41,15 +41,16 @@ spare_at n = record { value = n % 4; in_range = mod_below n 4 (lit< tt) }
 
 abbrev pub op_at : ℕ → OpWord
 op_at n =
-    record
-        { p = p_at (n / 2 ^ 20 % 4)
-        ; alu = alu_at (n / 2 ^ 16 % 16)
-        ; acc = acc_at (n / 2 ^ 15 % 2)
-        ; dpl = dpl_at (n / 2 ^ 13 % 4)
-        ; dphm = nibble_at (n / 2 ^ 9)
-        ; rpdec = n / 2 ^ 8 % 2 == 1
-        ; src = src_at (n / 2 ^ 4 % 16)
-        ; dst = dst_at (n % 16) }
+    record {
+      p = p_at (n / 2 ^ 20 % 4);
+      alu = alu_at (n / 2 ^ 16 % 16);
+      acc = acc_at (n / 2 ^ 15 % 2);
+      dpl = dpl_at (n / 2 ^ 13 % 4);
+      dphm = nibble_at (n / 2 ^ 9);
+      rpdec = n / 2 ^ 8 % 2 == 1;
+      src = src_at (n / 2 ^ 4 % 16);
+      dst = dst_at (n % 16);
+    }
 
 -- the instruction of a word, by its kind
 abbrev pub of_kind : ℕ → ℕ → Instr
