@@ -1,7 +1,7 @@
 -- Each word is one instruction: its fields times powers of two, the highest first.
 --
 -- The two highest bits give the kind: 0 computes and moves, 1 also returns, 2 jumps, 3 loads.
-use Rattle.std.specs.Prelude.{◌≡◌, ℕ, zero, suc, ◌+◌, ◌*◌, ◌/◌, ◌%◌, ◌^◌, Bool, true, false, ◌==◌}
+use Rattle.std.specs.Prelude.{ℕ, zero, suc, ◌+◌, ◌*◌, ◌/◌, ◌%◌, ◌^◌, Bool, true, false, ◌==◌}
 use Rattle.std.proofs.Common.{lit<}
 use Rattle.std.proofs.lemmas.Nat.{mod_below}
 use Rattle.wb_word.specs.Codes.{p_code, alu_code, acc_code, dpl_code, src_code, dst_code, p_at, alu_at, acc_at, dpl_at, src_at, dst_at}

@@ -1,4 +1,4 @@
-ghost use Rattle.std.specs.Prelude.{◌≡◌, ◌%◌, ◌^◌, ◌<◌};
+ghost use Rattle.std.specs.Prelude.{◌≡◌, ℕ, ◌%◌, ◌^◌, ◌<◌};
 ghost use Rattle.wb_word.specs.Encoding.{fields, instr_of, number};
 
 use crate::codes::{Acc, Alu, Dpl, Dst, P, Src};
@@ -6,11 +6,37 @@ use crate::conditions::Cond;
 use crate::numbers::{Addr, Nibble, Spare, Word};
 use crate::words::{Instr, OpWord};
 
-/// The instruction of a word. Every word has one.
+/// The one instruction of a word. Every word has one.
 pub fn decode(word: Word) -> Instr
-    ensures value { number result ≡ word.value }
+    ensures value { result ≡ instr_of word.value }
+    ensures number { number result ≡ word.value }
+    ensures only { (i : Instr) → number i ≡ word.value → i ≡ result }
 {
-    let bits = word.value;
+    instruction(word.value)
+}
+
+/// The one word of an instruction.
+pub fn encode(instr: &Instr) -> Word
+    ensures value { result.value ≡ number instr.now }
+    ensures instr { instr_of result.value ≡ instr.now }
+    ensures only { (w : Word) → instr_of w.value ≡ instr.now → w ≡ result }
+{
+    Word {
+        value: instruction_bits(instr),
+    }
+}
+
+/// `number` and `instr_of` are inverse, and so are `encode` and `decode`.
+#[tactic(auto, using(crate::proofs::Inverse::inverse))]
+pub fn coding_laws()
+    ensures word { (n : ℕ) → n < 2 ^ 24 → number (instr_of n) ≡ n }
+    ensures instr { (i : Instr) → number i < 2 ^ 24 → instr_of (number i) ≡ i }
+{}
+
+fn instruction(bits: u32) -> Instr
+    requires { bits < 2 ^ 24 }
+    ensures { number result ≡ bits }
+{
     match bits >> 22 {
         0 => Instr::Op(operation(bits)),
         1 => Instr::Rt(operation(bits)),
@@ -33,25 +59,21 @@ pub fn decode(word: Word) -> Instr
     }
 }
 
-/// The one word of an instruction.
-pub fn encode(instr: &Instr) -> Word
-    ensures value { result.value ≡ number instr.now }
+fn instruction_bits(instr: &Instr) -> u32
+    ensures value { result ≡ number instr.now }
+    ensures below { result < 2 ^ 24 }
 {
     match *instr {
-        Instr::Op(op) => Word {
-            value: operation_bits(&op),
-        },
-        Instr::Rt(op) => Word {
-            value: (1 << 22) + operation_bits(&op),
-        },
-        Instr::Jp { cond, na, spare } => Word {
-            value: (2 << 22)
+        Instr::Op(op) => operation_bits(&op),
+        Instr::Rt(op) => (1 << 22) + operation_bits(&op),
+        Instr::Jp { cond, na, spare } => {
+            (2 << 22)
                 + (u32::from(cond.code()) << 13)
                 + (u32::from(na.value) << 2)
-                + u32::from(spare.value),
+                + u32::from(spare.value)
         },
-        Instr::Ld { value, spare, dst } => Word {
-            value: (3 << 22) + (u32::from(value) << 6) + (u32::from(spare.value) << 4) + dst.code(),
+        Instr::Ld { value, spare, dst } => {
+            (3 << 22) + (u32::from(value) << 6) + (u32::from(spare.value) << 4) + dst.code()
         },
     }
 }
@@ -88,3 +110,6 @@ fn operation_bits(op: &OpWord) -> u32
         + (op.src.code() << 4)
         + op.dst.code()
 }
+
+#[cfg(test)]
+mod tests;
