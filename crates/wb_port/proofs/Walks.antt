@@ -33,8 +33,8 @@ tests-suc image zero at = omega arith
 tests-suc image (suc m) at =
     joined (cond (is_test (word_of image at)) 1 0) _ _ _ (tests-suc image m (follow image at))
   where
-  joined : (a c d e : ℕ) → c ≡ d + e → a + c ≡ a + d + e
-  joined a c d e h = omega arith
+    joined : (a c d e : ℕ) → c ≡ d + e → a + c ≡ a + d + e
+    joined a c d e h = omega arith
 
 -- each word of a plain walk is plain
 pub plain-at : (image : Image) (m j at : ℕ) → j < m → plain image m at ≡ true → is_plain (word_of image (follow_times image j at)) ≡ true
@@ -74,12 +74,12 @@ different-at image (suc m) (suc p) (suc q) at h less inside = different-at image
 pub first_return : (image : Image) (m at : ℕ) → follow_times image m at ≡ at → ((j : ℕ) → 0 < j → j < m → follow_times image j at ≢ at) → all_different (walk image m at) ≡ true
 first_return image m at back new = different image m at (λ p q less inside. apart p q less inside)
   where
-  apart : (p q : ℕ) → p < q → q < m → follow_times image p at ≢ follow_times image q at
-  apart p q less inside e =
-      let far : follow_times image (p + (m - q)) at ≡ at =
-          follow-add image p (m - q) at ∙ ap (follow_times image (m - q)) e ∙ sym (follow-add image q (m - q) at)
-          ∙ ap (λ k. follow_times image k at) (let k : q + (m - q) ≡ m = omega arith in k) ∙ back in
-      new (p + (m - q)) (omega arith) (omega arith) far
+    apart : (p q : ℕ) → p < q → q < m → follow_times image p at ≢ follow_times image q at
+    apart p q less inside e =
+        let far : follow_times image (p + (m - q)) at ≡ at =
+        follow-add image p (m - q) at ∙ ap (follow_times image (m - q)) e ∙ sym (follow-add image q (m - q) at)
+        ∙ ap (λ k. follow_times image k at) (let k : q + (m - q) ≡ m = omega arith in k) ∙ back in
+        new (p + (m - q)) (omega arith) (omega arith) far
 
 -- a loop has m words only where the first address comes back after them, its words are plain, and they are different
 pub no_return : (image : Image) (m at : ℕ) → follow_times image m at ≢ at → is_loop image at m ≡ false
@@ -104,9 +104,9 @@ closes image m at all back new =
     let r = eq-eqb _ _ back in
     simp (d, all, r) (last (tests image m at == 1))
   where
-  last : (b : Bool) → (b && true) ≡ b
-  last true = refl
-  last false = refl
+    last : (b : Bool) → (b && true) ≡ b
+    last true = refl
+    last false = refl
 
 -- whether one of the f loops of more than i words is one
 abbrev pub loops_above : Image → ℕ → ℕ → ℕ → Bool
@@ -123,8 +123,8 @@ sought image at zero here t = false
 sought image at (suc f) here t =
     cond (is_plain (word_of image here))
     (cond (follow image here == at)
-      ((t + cond (is_test (word_of image here)) 1 0) == 1)
-      (sought image at f (follow image here) (t + cond (is_test (word_of image here)) 1 0)))
+    ((t + cond (is_test (word_of image here)) 1 0) == 1)
+    (sought image at f (follow image here) (t + cond (is_test (word_of image here)) 1 0)))
     false
 
 -- the first i words are plain, and the first address hasn't come back
@@ -136,38 +136,44 @@ pub sought-is : (image : Image) (at f i : ℕ) → IsFront image at i → sought
 sought-is image at zero i front = refl
 sought-is image at (suc f) i front = by_plain (λ next. sought-is image at f (suc i) next) (is_plain (word_of image here)) refl
   where
-  here : ℕ
-  here = follow_times image i at
-  or_false : (b : Bool) → (b || false) ≡ b
-  or_false true = refl
-  or_false false = refl
-  newer : (j : ℕ) → 0 < j → j ≤ suc i → follow_times image (suc i) at ≢ at → follow_times image j at ≢ at
-  newer j some most far = elim (cases_eq j (suc i)) [ inl e ↦ subst (λ (k : ℕ). follow_times image k at ≢ at) (sym e) far | inr ne ↦ front.new j some (omega arith) ]
-  more : ℕ
-  more = tests image i at + cond (is_test (word_of image here)) 1 0
-  Ih : Type 0
-  Ih = IsFront image at (suc i) → sought image at f (follow_times image (suc i) at) (tests image (suc i) at) ≡ loops_above image at (suc i) f
-  by_return : Ih → (is_plain (word_of image here) ≡ true) → (b : Bool) → (follow image here == at) ≡ b → cond b (more == 1) (sought image at f (follow image here) more) ≡ loops_above image at i (suc f)
-  by_return ih p true back =
-      let round : follow_times image (suc i) at ≡ at = follow-suc image i at ∙ eqb-true _ _ back in
-      let all : plain image (suc i) at ≡ true = plain-suc image i at ∙ and_from _ _ front.all p in
-      let new : (j : ℕ) → 0 < j → j < suc i → follow_times image j at ≢ at = λ j some less. front.new j some (omega arith) in
-      let loop : is_loop image at (suc i) ≡ (tests image (suc i) at == 1) = closes image (suc i) at all round new in
-      let rest : loops_above image at (suc i) f ≡ false =
-          none_above image at (suc i) f (λ m less. returned_before image m (suc i) at (omega arith) less round) in
-      let count : tests image (suc i) at ≡ more = tests-suc image i at in
-      sym (rw (loop, rest, count) (or_false (more == 1)))
-  by_return ih p false away =
-      let here_suc : follow_times image (suc i) at ≡ follow image here = follow-suc image i at in
-      let far : follow_times image (suc i) at ≢ at = λ e. eqb-false _ _ away (sym here_suc ∙ e) in
-      let all : plain image (suc i) at ≡ true = plain-suc image i at ∙ and_from _ _ front.all p in
-      let count : tests image (suc i) at ≡ more = tests-suc image i at in
-      let loop : is_loop image at (suc i) ≡ false = no_return image (suc i) at far in
-      let front_next : IsFront image at (suc i) = record { all = all; new = λ j some most. newer j some most far } in
-      rw loop (rw (here_suc, count) at (ih front_next))
-  by_plain : Ih → (b : Bool) → is_plain (word_of image here) ≡ b → cond b (cond (follow image here == at) (more == 1) (sought image at f (follow image here) more)) false ≡ loops_above image at i (suc f)
-  by_plain ih true p = by_return ih p (follow image here == at) refl
-  by_plain ih false p = sym (none_above image at i (suc f) (λ m less. not_plain image m i at less p))
+    here : ℕ
+    here = follow_times image i at
+
+    or_false : (b : Bool) → (b || false) ≡ b
+    or_false true = refl
+    or_false false = refl
+
+    newer : (j : ℕ) → 0 < j → j ≤ suc i → follow_times image (suc i) at ≢ at → follow_times image j at ≢ at
+    newer j some most far = elim (cases_eq j (suc i)) [ inl e ↦ subst (λ (k : ℕ). follow_times image k at ≢ at) (sym e) far | inr ne ↦ front.new j some (omega arith) ]
+
+    more : ℕ
+    more = tests image i at + cond (is_test (word_of image here)) 1 0
+
+    Ih : Type 0
+    Ih = IsFront image at (suc i) → sought image at f (follow_times image (suc i) at) (tests image (suc i) at) ≡ loops_above image at (suc i) f
+
+    by_return : Ih → (is_plain (word_of image here) ≡ true) → (b : Bool) → (follow image here == at) ≡ b → cond b (more == 1) (sought image at f (follow image here) more) ≡ loops_above image at i (suc f)
+    by_return ih p true back =
+        let round : follow_times image (suc i) at ≡ at = follow-suc image i at ∙ eqb-true _ _ back in
+        let all : plain image (suc i) at ≡ true = plain-suc image i at ∙ and_from _ _ front.all p in
+        let new : (j : ℕ) → 0 < j → j < suc i → follow_times image j at ≢ at = λ j some less. front.new j some (omega arith) in
+        let loop : is_loop image at (suc i) ≡ (tests image (suc i) at == 1) = closes image (suc i) at all round new in
+        let rest : loops_above image at (suc i) f ≡ false =
+        none_above image at (suc i) f (λ m less. returned_before image m (suc i) at (omega arith) less round) in
+        let count : tests image (suc i) at ≡ more = tests-suc image i at in
+        sym (rw (loop, rest, count) (or_false (more == 1)))
+    by_return ih p false away =
+        let here_suc : follow_times image (suc i) at ≡ follow image here = follow-suc image i at in
+        let far : follow_times image (suc i) at ≢ at = λ e. eqb-false _ _ away (sym here_suc ∙ e) in
+        let all : plain image (suc i) at ≡ true = plain-suc image i at ∙ and_from _ _ front.all p in
+        let count : tests image (suc i) at ≡ more = tests-suc image i at in
+        let loop : is_loop image at (suc i) ≡ false = no_return image (suc i) at far in
+        let front_next : IsFront image at (suc i) = record { all = all; new = λ j some most. newer j some most far } in
+        rw loop (rw (here_suc, count) at (ih front_next))
+
+    by_plain : Ih → (b : Bool) → is_plain (word_of image here) ≡ b → cond b (cond (follow image here == at) (more == 1) (sought image at f (follow image here) more)) false ≡ loops_above image at i (suc f)
+    by_plain ih true p = by_return ih p (follow image here == at) refl
+    by_plain ih false p = sym (none_above image at i (suc f) (λ m less. not_plain image m i at less p))
 
 -- following from the address itself finds its loop
 pub poll_is_sought : (image : Image) (at : ℕ) → sought image at 8 at 0 ≡ is_poll image at
@@ -189,18 +195,20 @@ sought_goes_on image at f here t h e = rw (h, ne_eqb _ _ e) refl
 pub sought_turn : (image : Image) (at here next t b i : ℕ) → i < 8 → sought image at (8 - i) here t ≡ is_poll image at → t ≤ i → is_plain (word_of image here) ≡ true → next ≡ follow image here → next ≢ at → b ≡ cond (is_test (word_of image here)) 1 0 → (sought image at (8 - (i + 1)) next (t + b) ≡ is_poll image at) × (t + b ≤ i + 1)
 sought_turn image at here next t b i less h few p n away bit = (turned, few_more)
   where
-  size : 8 - i ≡ suc (8 - (i + 1))
-  size = omega arith
-  turned : sought image at (8 - (i + 1)) next (t + b) ≡ is_poll image at
-  turned =
-      let step : sought image at (suc (8 - (i + 1))) here t ≡ sought image at (8 - (i + 1)) (follow image here) (t + cond (is_test (word_of image here)) 1 0) =
-          sought_goes_on image at (8 - (i + 1)) here t p (λ e. away (n ∙ e)) in
-      let whole : sought image at (suc (8 - (i + 1))) here t ≡ is_poll image at =
-          subst (λ (k : ℕ). sought image at k here t ≡ is_poll image at) size h in
-      rw (n, bit) (sym step ∙ whole)
-  few_more : t + b ≤ i + 1
-  few_more = by_test (is_test (word_of image here)) b bit
-    where
-    by_test : (s : Bool) (d : ℕ) → d ≡ cond s 1 0 → t + d ≤ i + 1
-    by_test true d e = omega arith
-    by_test false d e = omega arith
+    size : 8 - i ≡ suc (8 - (i + 1))
+    size = omega arith
+
+    turned : sought image at (8 - (i + 1)) next (t + b) ≡ is_poll image at
+    turned =
+        let step : sought image at (suc (8 - (i + 1))) here t ≡ sought image at (8 - (i + 1)) (follow image here) (t + cond (is_test (word_of image here)) 1 0) =
+        sought_goes_on image at (8 - (i + 1)) here t p (λ e. away (n ∙ e)) in
+        let whole : sought image at (suc (8 - (i + 1))) here t ≡ is_poll image at =
+        subst (λ (k : ℕ). sought image at k here t ≡ is_poll image at) size h in
+        rw (n, bit) (sym step ∙ whole)
+
+    few_more : t + b ≤ i + 1
+    few_more = by_test (is_test (word_of image here)) b bit
+      where
+        by_test : (s : Bool) (d : ℕ) → d ≡ cond s 1 0 → t + d ≤ i + 1
+        by_test true d e = omega arith
+        by_test false d e = omega arith

@@ -48,12 +48,13 @@ count_after false false count = count + 1
 -- the monitor after the next instruction: a request is asked until the test of a poll finds that it is over
 unfoldable pub observed : Image → Chip → Monitor
 observed image c =
-    record
-        { asked =
-            raises_request (word_at image c) || (c.monitor.asked && not (is_leaving image c))
-        ; count =
-            count_after (is_idle image c) (raises_request (word_at image c)) c.monitor.count
-        ; breach = first_breach c.monitor.breach (is_breach image c) (place c) }
+    record {
+      asked =
+          raises_request (word_at image c) || (c.monitor.asked && not (is_leaving image c));
+      count =
+          count_after (is_idle image c) (raises_request (word_at image c)) c.monitor.count;
+      breach = first_breach c.monitor.breach (is_breach image c) (place c);
+    }
 
 -- the chip after one instruction
 unfoldable pub stepped : Image → Chip → Chip

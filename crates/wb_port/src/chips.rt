@@ -96,9 +96,7 @@ impl Chip {
     pub fn is_breach(&self, image: &Image) -> bool
         ensures { result ≡ is_breach image.now self.now }
     {
-        self.monitor.asked
-            && touches(image.word_at(self.place()))
-            && !is_poll(image, self.place())
+        self.monitor.asked && touches(image.word_at(self.place())) && !is_poll(image, self.place())
     }
 
     /// One event of a schedule. The reply is the byte that a read or a status read gives.

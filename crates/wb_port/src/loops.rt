@@ -82,9 +82,20 @@ fn follow_jump(instr: Instr, at: Addr) -> Option<Addr>
     ensures next { IfSome result (λ next. next.value ≡ instr_follow instr at.value) }
 {
     match instr {
-        Instr::Jp { cond: Cond::Jmp, na, .. } => Some(na),
-        Instr::Jp { cond: Cond::Jrqm, na, .. } => Some(na),
-        Instr::Jp { cond: Cond::Jnrqm, .. } => Some(after(at)),
+        Instr::Jp {
+            cond: Cond::Jmp,
+            na,
+            ..
+        } => Some(na),
+        Instr::Jp {
+            cond: Cond::Jrqm,
+            na,
+            ..
+        } => Some(na),
+        Instr::Jp {
+            cond: Cond::Jnrqm,
+            ..
+        } => Some(after(at)),
         _ => None,
     }
 }

@@ -15,8 +15,8 @@ byte_of s false e = ap bool_byte e
 pub loop-walked-preserved : goal.loop-walked-preserved
 loop-walked-preserved c =
     sought_turn c.args.image.now c.args.at.value c.loop-walked.here.value c.in-Some.next.value
-        c.loop-walked.tests c.from-tests.result c.loop-walked._walked
-        c.loop-walked-test.true c.loop-walked.invariant.0 c.loop-walked.invariant.1
-        (sym c.in-Some.ensures.plain) c.in-Some.ensures.next
-        (eqb-false _ _ (sym c.if-eq.ensures))
-        (c.from-tests.ensures ∙ byte_of _ _ (c.is_test.ensures ∙ ap is_test c.word_at.ensures))
+    c.loop-walked.tests c.from-tests.result c.loop-walked._walked
+    c.loop-walked-test.true c.loop-walked.invariant.0 c.loop-walked.invariant.1
+    (sym c.in-Some.ensures.plain) c.in-Some.ensures.next
+    (eqb-false _ _ (sym c.if-eq.ensures))
+    (c.from-tests.ensures ∙ byte_of _ _ (c.is_test.ensures ∙ ap is_test c.word_at.ensures))
