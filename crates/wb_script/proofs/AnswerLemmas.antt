@@ -15,8 +15,8 @@ use Rattle.wb_script.specs.declared.items.Item.TheVariants.{Wait, Step, Status, 
 use Rattle.wb_script.specs.declared.table.Statement.{Statement}
 use Rattle.wb_script.specs.declared.table.Statement.TheVariants.{Row, Repeat, End}
 use Rattle.wb_script.specs.Statement.{statement_of, by_fields, word_alone, word_and_value, repetition, byte_of, number_of, fields, before_comment}
-use Rattle.wb_script.specs.Script.{Block, Lone, Repeated, Open, Front, spelled, unrolled, items_of, copies, open_lines, open_items, total, IsFront, IsBadAfter, IsBadAt, IsUnclosedAt, IsScript, IsFirstBad, statements}
-use Rattle.wb_script.proofs.FrontLemmas.{lines_of, items_at, front_of, with_row, add, closed, grown, within, next, total-add, total-closed, total-is, items-add, lines-grown, front-grown}
+use Rattle.wb_script.specs.Script.{Block, Lone, Repeated, Open, Front, spelled, unrolled, items_of, open_lines, total, IsFront, IsBadAfter, IsBadAt, IsUnclosedAt, IsScript, IsFirstBad, statements}
+use Rattle.wb_script.proofs.FrontLemmas.{front_of, add, closed, grown, within, next, total-add, total-closed, front-grown}
 
 -- ---- a repetition runs at least once
 

@@ -1,15 +1,14 @@
 -- How the front of a script grows, line by line.
-use Rattle.std.proofs.Common.{◌≡◌, ℕ, ◌+◌, ◌*◌, ◌<◌, ◌≤◌, Bool, true, false, cond, leb, Option, Some, None, List, [], ◌∷◌, ◌++◌, length, map, sym, refl, ap, ◌∙◌, ◌⊎◌, inl, inr, arith, append_assoc, replicate, suc, zero, subst, add_comm}
+use Rattle.std.proofs.Common.{◌≡◌, ℕ, ◌+◌, ◌*◌, ◌≤◌, cond, leb, Option, Some, None, List, [], ◌∷◌, ◌++◌, length, map, sym, ap, ◌∙◌, append_assoc, suc, zero, subst, add_comm}
 use Rattle.std.proofs.Math.Nat.{zero-mul, suc-mul}
 use Rattle.std.specs.Option.{option_to_list, option_and_then}
 use Rattle.std.specs.List.{flat_map}
-use Rattle.std.proofs.lemmas.Grind.{flat_map-append, common_steps}
+use Rattle.std.proofs.lemmas.Grind.{flat_map-append}
 use Rattle.std.proofs.lemmas.List.{map-append, append-nil, length-append}
-use Rattle.std.proofs.lemmas.Bool.{leb-true, leb-false, lt-leb, le-leb}
 use Rattle.wb_script.specs.declared.items.Item.{Item}
 use Rattle.wb_script.specs.declared.table.Statement.{Statement}
 use Rattle.wb_script.specs.declared.table.Statement.TheVariants.{Row, Repeat, End}
-use Rattle.wb_script.specs.Script.{Block, Lone, Repeated, Open, Front, spelled, unrolled, items_of, copies, open_lines, open_items, total, IsFront, IsBadAfter}
+use Rattle.wb_script.specs.Script.{Block, Lone, Repeated, Open, Front, spelled, unrolled, items_of, copies, open_lines, open_items, total, IsFront}
 
 -- the lines of a front, and its items
 abbrev pub lines_of : List Block → Option Open → List Statement

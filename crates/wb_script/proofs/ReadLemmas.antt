@@ -1,5 +1,5 @@
 -- What the reader holds is the front of a script.
-use Rattle.std.proofs.Common.{◌≡◌, ℕ, ◌+◌, ◌*◌, ◌-◌, ◌<◌, ◌≤◌, Option, Some, None, Result, Ok, Err, List, [], ◌∷◌, ◌++◌, length, map, take, drop, sym, refl, ap, ◌∙◌, ◌⊎◌, inl, inr, arith, append_assoc, subst}
+use Rattle.std.proofs.Common.{◌≡◌, ℕ, ◌+◌, ◌*◌, ◌-◌, ◌<◌, ◌≤◌, Option, Some, None, Result, Ok, Err, List, [], ◌∷◌, ◌++◌, length, map, take, drop, sym, refl, ap, ◌∙◌, inl, arith, append_assoc, subst}
 use Rattle.std.specs.Option.{IfSome, MatchOption, option_to_list}
 use Rattle.std.specs.List.{flat_map}
 use Rattle.std.specs.Str.Lines.{lines}
@@ -15,7 +15,7 @@ use Rattle.wb_script.specs.declared.table.Statement.TheVariants.{Row, Repeat, En
 use Rattle.wb_script.specs.Statement.{statement_of}
 use Rattle.wb_script.specs.Script.{Block, Open, Front, spelled, unrolled, items_of, copies, total, IsFront, IsBadAfter, IsBadAt, IsFirstBad, IsFaultOf, IsScript, statements}
 use Rattle.wb_script.specs.Reading.{HasRoom, Continues, IsRefused, IsRefusal}
-use Rattle.wb_script.proofs.FrontLemmas.{lines_of, items_at, front_of, add, closed, grown, total-add, total-closed, total-is, items-add, items-closed, front-grown}
+use Rattle.wb_script.proofs.FrontLemmas.{items_at, front_of, add, closed, grown, total-add, total-closed, total-is, items-add, items-closed, front-grown}
 use Rattle.wb_script.proofs.AnswerLemmas.{IsCounted, counted_line, bad_at, script_at_end, unclosed_at_end}
 
 -- where the open repetition of a front began

@@ -2,7 +2,7 @@
 //
 // `read_script` gives exactly the unrolled items of a text that is a script, and else the number of its
 // first bad line. `items.rt` has the items, `scripts.rt` the list of them, `faults.rt` the two answers
-// that are no script, `table.rt` and `fields.rt` read one line, `reader.rt` unrolls the lines.
+// that are no script; `table.rt` and `fields.rt` read one line, `reader.rt` unrolls the lines.
 // `specs/Statement.antt` says what one line says, `specs/Script.antt` what the lines of a text say together.
 #![tactic(auto)]
 
@@ -13,8 +13,10 @@ mod laws;
 mod reader;
 mod scripts;
 mod table;
+#[cfg(test)]
+mod tests;
 
-pub use faults::{OutOfMemory, ScriptFault};
+pub use faults::ScriptFault;
 pub use items::Item;
 pub use laws::each_text_has_one_answer;
 pub use reader::read_script;

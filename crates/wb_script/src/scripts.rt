@@ -27,6 +27,13 @@ impl Script {
         Script { items }
     }
 
+    /// The items again, which takes no memory.
+    pub fn into_items(self) -> Vec<Item>
+        ensures { result.items ≡ self }
+    {
+        self.items
+    }
+
     /// How many items there are.
     pub fn len(&self) -> usize
         ensures { result ≡ length self.now }

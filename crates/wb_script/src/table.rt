@@ -6,7 +6,7 @@ use crate::Item;
 use crate::fields::{before_comment, byte_of, number_of, split_field};
 
 /// What a line of a script says.
-#[derive(Clone, Copy, PartialEq, Eq, Debug)]
+#[derive(Clone, Copy)]
 pub enum Statement {
     /// An item, or nothing at all.
     Row(Option<Item>),
@@ -59,8 +59,8 @@ fn word_and_value(word: &[u8], value: &[u8]) -> Option<Statement>
     }
 }
 
-#[tactic(auto, unfolding(crate::specs::Statement::statement_of))]
 /// What a line says, given without its line feed; `None` where no script has such a line.
+#[tactic(auto, unfolding(crate::specs::Statement::statement_of))]
 pub fn statement_of(line: &[u8]) -> Option<Statement>
     ensures { result ≡ statement_of line.now }
 {

@@ -1,6 +1,6 @@
 use Rattle.std.proofs.Common.{arith, ◌≡◌, Some, get_or, take, take_all, ap, sym, ◌∙◌}
 use Rattle.std.specs.Str.Parse.{AllDigits}
-use Rattle.wb_script.proofs.FieldLemmas.{digit_read, digit_refused, few_digits, more_digits, tested}
+use Rattle.wb_script.proofs.FieldLemmas.{digit_read, few_digits, more_digits, tested}
 use Rattle.wb_script.proofs.fields.decimal.Goals as goal
 
 pub overflow_mul-value : goal.overflow_mul-value

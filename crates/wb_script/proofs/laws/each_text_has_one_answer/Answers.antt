@@ -1,5 +1,4 @@
 use Rattle.wb_script.proofs.AnswerLemmas.{some_answer, never_both, one_script, one_line}
-use Rattle.wb_script.proofs.LineLemmas.{first_line, only_line}
 use Rattle.wb_script.proofs.laws.each_text_has_one_answer.Goals as goal
 
 pub returns-clause-some : goal.returns-clause-some

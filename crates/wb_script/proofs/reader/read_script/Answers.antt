@@ -1,5 +1,5 @@
 use Rattle.std.proofs.Common.{refl, arith}
-use Rattle.wb_script.proofs.ReadLemmas.{begin, advance, refused_by, handed_on, finished}
+use Rattle.wb_script.proofs.ReadLemmas.{begin, advance, refused_by, handed_on}
 use Rattle.wb_script.proofs.reader.read_script.Goals as goal
 
 pub loop-rest-init : goal.loop-rest-init

@@ -1,4 +1,4 @@
-use Rattle.std.proofs.Common.{◌≡◌, ◌-◌, sym, ◌∙◌, arith, length}
+use Rattle.std.proofs.Common.{◌≡◌, ◌∙◌, arith}
 use Rattle.wb_script.proofs.CopyLemmas.{one_more, all_copies, no_copies}
 use Rattle.wb_script.proofs.reader.repeat.Goals as goal
 

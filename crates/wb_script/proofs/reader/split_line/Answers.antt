@@ -1,4 +1,4 @@
-use Rattle.std.proofs.Common.{◌<◌, ◌≤◌, length, sym, arith}
+use Rattle.std.proofs.Common.{◌<◌, ◌≤◌, length, arith}
 use Rattle.std.proofs.lemmas.List.{take_rest, drop_all}
 use Rattle.wb_script.proofs.LineLemmas.{feed, first_line, only_line}
 use Rattle.wb_script.proofs.reader.split_line.Goals as goal
