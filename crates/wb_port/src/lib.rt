@@ -4,6 +4,7 @@
 mod accesses;
 mod chips;
 mod lists;
+mod loops;
 mod points;
 mod port;
 mod runs;
@@ -11,6 +12,7 @@ mod runs;
 pub use accesses::{Access, Event, Kind, Letter, Power};
 pub use chips::{Chip, Monitor};
 pub use lists::{Kinds, Replies};
+pub use loops::{follow, is_poll, is_test, raises, touches};
 pub use points::Point;
 pub use port::{halfway, read, requested, status, write};
 pub use runs::Run;
