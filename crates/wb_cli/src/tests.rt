@@ -26,7 +26,7 @@ fn image(alloc: Global, words: &[[u8; 3]]) -> Result<Vec<u8>, Fail> {
     for word in words {
         bytes.extend_from_slice(word)?;
     }
-    while bytes.len() < 8192 {
+    for _ in bytes.len()..8192 {
         bytes.push(0)?;
     }
     Ok(bytes)
