@@ -1,13 +1,23 @@
-// A library with one function.
+//! The words of the µPD77C25: narrow numbers, instruction words and instructions.
+//!
+//! Every 24-bit word is exactly one instruction and back: `decode` and `encode` are inverse, and each meets
+//! the sum of field values that `specs/Encoding.antt` gives. `numbers` has the narrow numbers, `codes` the
+//! field codes, `conditions` the branch codes, `words` the instruction and `coding` its two directions;
+//! `sides` names the two machines of a comparison, `memory` the want of memory.
 #![tactic(auto)]
 
-ghost use Rattle.std.specs.Prelude.{◌≡◌};
-ghost use Rattle.wb_word.specs.Echo.{echo_of};
+mod codes;
+mod conditions;
+mod memory;
+mod numbers;
+mod sides;
+mod table;
+mod words;
 
-// The `ensures` clause is the contract: what `echo` returns is `echo_of` of its argument, a definition
-// in `specs/Echo.antt`, which a caller's clause can cite too.
-pub fn echo(x: usize) -> usize
-    ensures { result ≡ echo_of x }
-{
-    x
-}
+pub use codes::{Acc, Alu, Dpl, Dst, P, Src};
+pub use conditions::Cond;
+pub use memory::OutOfMemory;
+pub use numbers::{Addr, Nibble, OtherCode, Spare, Word};
+pub use sides::Side;
+pub use table::Rom;
+pub use words::{Instr, OpWord};
