@@ -54,7 +54,7 @@ cond_list =
 
 -- the condition with this code, where the code names one
 abbrev pub named_at : ℕ → Cond
-named_at code = unwrap_or (find (λ c. cond_code c == code) cond_list) cond.Jmp
+named_at code = unwrap_or (find (λ c. code == cond_code c) cond_list) cond.Jmp
 
 -- the condition with this code, where it is known whether the code names one
 abbrev pub cond_where : (code : ℕ) → code < 512 → (b : Bool) → is_named code ≡ b → Cond

@@ -1,7 +1,7 @@
 -- Each word is one instruction: its fields times powers of two, the highest first.
 --
 -- The two highest bits give the kind: 0 computes and moves, 1 also returns, 2 jumps, 3 loads.
-use Rattle.std.specs.Prelude.{◌≡◌, ℕ, zero, suc, ◌+◌, ◌*◌, ◌/◌, ◌%◌, ◌^◌, Bool, true, false, ◌==◌}
+use Rattle.std.specs.Prelude.{ℕ, zero, suc, ◌+◌, ◌*◌, ◌/◌, ◌%◌, ◌^◌, Bool, true, false, ◌==◌}
 use Rattle.std.proofs.Common.{lit<}
 use Rattle.std.proofs.lemmas.Nat.{mod_below}
 use Rattle.wb_word.specs.Codes.{p_code, alu_code, acc_code, dpl_code, src_code, dst_code, p_at, alu_at, acc_at, dpl_at, src_at, dst_at}
@@ -41,15 +41,16 @@ spare_at n = record { value = n % 4; in_range = mod_below n 4 (lit< tt) }
 
 abbrev pub op_at : ℕ → OpWord
 op_at n =
-    record
-        { p = p_at (n / 2 ^ 20 % 4)
-        ; alu = alu_at (n / 2 ^ 16 % 16)
-        ; acc = acc_at (n / 2 ^ 15 % 2)
-        ; dpl = dpl_at (n / 2 ^ 13 % 4)
-        ; dphm = nibble_at (n / 2 ^ 9)
-        ; rpdec = n / 2 ^ 8 % 2 == 1
-        ; src = src_at (n / 2 ^ 4 % 16)
-        ; dst = dst_at (n % 16) }
+    record {
+      p = p_at (n / 2 ^ 20 % 4);
+      alu = alu_at (n / 2 ^ 16 % 16);
+      acc = acc_at (n / 2 ^ 15 % 2);
+      dpl = dpl_at (n / 2 ^ 13 % 4);
+      dphm = nibble_at (n / 2 ^ 9);
+      rpdec = n / 2 ^ 8 % 2 == 1;
+      src = src_at (n / 2 ^ 4 % 16);
+      dst = dst_at (n % 16);
+    }
 
 -- the instruction of a word, by its kind
 abbrev pub of_kind : ℕ → ℕ → Instr

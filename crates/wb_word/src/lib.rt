@@ -7,6 +7,7 @@
 #![tactic(auto)]
 
 mod codes;
+mod coding;
 mod conditions;
 mod memory;
 mod numbers;
@@ -15,7 +16,8 @@ mod table;
 mod words;
 
 pub use codes::{Acc, Alu, Dpl, Dst, P, Src};
-pub use conditions::Cond;
+pub use coding::{coding_laws, decode, encode};
+pub use conditions::{Cond, is_named};
 pub use memory::OutOfMemory;
 pub use numbers::{Addr, Nibble, OtherCode, Spare, Word};
 pub use sides::Side;

@@ -1,0 +1,4 @@
+pub mod FieldCodes
+pub mod SameNumbers
+pub mod CondCodes
+pub mod Inverse
