@@ -4,5 +4,4 @@ ghost use Rattle.wb_port.specs.Facts.{CalmWordsCommute};
 /// A word that doesn't touch the port can be executed before or after any access.
 pub fn calm_words_commute()
     ensures { CalmWordsCommute }
-{
-}
+{}

@@ -3,6 +3,7 @@
 
 mod accesses;
 mod chips;
+mod laws_every;
 mod lists;
 mod points;
 mod port;
@@ -10,6 +11,7 @@ mod runs;
 
 pub use accesses::{Access, Event, Kind, Letter, Power};
 pub use chips::{Chip, Monitor};
+pub use laws_every::calm_words_commute;
 pub use lists::{Kinds, Replies};
 pub use points::Point;
 pub use port::{halfway, read, requested, status, write};
