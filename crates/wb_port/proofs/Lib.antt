@@ -1,1 +1,3 @@
 pub mod EveryFacts
+pub mod EveryRuns
+pub mod EveryWalks

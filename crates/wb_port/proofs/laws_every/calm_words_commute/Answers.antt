@@ -1,0 +1,7 @@
+use Rattle.wb_port.proofs.EveryFacts.{calm_commutes}
+use Rattle.wb_port.proofs.EveryRuns.{gives}
+use Rattle.wb_port.proofs.EveryWalks.{same_rqm}
+use Rattle.wb_port.proofs.laws_every.calm_words_commute.Goals as goal
+
+pub returns : goal.returns
+returns c = calm_commutes
