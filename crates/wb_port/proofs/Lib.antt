@@ -1,3 +1,4 @@
 pub mod EveryFacts
 pub mod EveryRuns
 pub mod EveryWalks
+pub mod EveryLaw

@@ -1,6 +1,5 @@
 use Rattle.wb_port.proofs.EveryFacts.{calm_commutes}
-use Rattle.wb_port.proofs.EveryRuns.{gives}
-use Rattle.wb_port.proofs.EveryWalks.{same_rqm}
+use Rattle.wb_port.proofs.EveryLaw.{free_held}
 use Rattle.wb_port.proofs.laws_every.calm_words_commute.Goals as goal
 
 pub returns : goal.returns
