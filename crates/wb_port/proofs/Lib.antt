@@ -1,2 +1,5 @@
+pub mod Circles
+pub mod Single
+pub mod Starts
 pub mod Steady
 pub mod Walks

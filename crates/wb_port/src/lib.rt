@@ -8,6 +8,8 @@ mod loops;
 mod points;
 mod port;
 mod runs;
+mod shapes;
+mod talks;
 
 pub use accesses::{Access, Event, Kind, Letter, Power};
 pub use chips::{Chip, Monitor};
@@ -16,4 +18,6 @@ pub use loops::{follow, is_poll, is_test, raises, touches};
 pub use points::Point;
 pub use port::{halfway, read, requested, status, write};
 pub use runs::Run;
+pub use shapes::Shape;
+pub use talks::Dialogue;
 pub use wb_word::Side;
