@@ -24,7 +24,8 @@ use Rattle.wb_port.specs.Wait.{touches, raises_request, is_test, is_poll, word_o
 use Rattle.wb_port.specs.Monitor.{place, word_at, is_idle, is_breach, is_leaving, first_breach, observed, stepped}
 use Rattle.wb_port.specs.Schedule.{powered, applied, after, IsPolite, IsPoliteEvent, KeepsPace, KeepsPaceAt, told, told_reply, talk_from, said_from, talk, said}
 use Rattle.wb_port.specs.Run.{Moment, Turn, Gives, Steps, Ends, go, is_waiting, turn, turns, EndsFrom, EndsAs}
-use Rattle.wb_port.specs.Alike.{IsObedient, IsFaithful, EverySchedule}
+use Rattle.wb_port.specs.Alike.{IsObedient, IsFaithful}
+use Rattle.wb_port.specs.Laws.{OwnTalkSuffices, ObedientSchedulesAreFaithful}
 use Rattle.wb_port.specs.Facts.{placed, moved_to, gate, SamePort}
 use Rattle.wb_port.proofs.EveryFacts.{only_raised, test_at_gate, comes_nearer, one_gate, poll_follows, idle_moves, access_raises_nothing}
 use Rattle.wb_port.proofs.EveryRuns.{moment, gives, works, works_on, answers, breaks, executes, now, later, stays}
@@ -484,7 +485,7 @@ module _ (image : Image) (k : ℕ) where
   unfolding power rqm
   powered_sane start h = absurd (both_ways false refl h)
 
-  pub plain_law : (start : List ℕ) (s : List Event) → IsObedient image k start s
+  plain_law : (start : List ℕ) (s : List Event) → IsObedient image k start s
       → ((at : Addr) → EndsAs image k true (talk image start s) (Breach at) → ⊥)
       → IsFaithful image k start s
   unfolding talk said
@@ -493,6 +494,9 @@ module _ (image : Image) (k : ℕ) where
       let h = heard s c c [] [] (follows_itself image k c c refl) (powered_sane start) refl obedient.polite obedient.paced safe in
       record { answered = h.answered; unbroken = h.unbroken }
 
-pub every_schedule : (image : Image) (n k : ℕ) (shape : List Letter) (power : Power) → EverySchedule image n k shape power
+pub own_talk : OwnTalkSuffices
+own_talk image k start s obedient safe = plain_law image k start s obedient safe
+
+pub every_schedule : ObedientSchedulesAreFaithful
 every_schedule image n k shape power never start s obedient fits =
     plain_law image k start s obedient (λ at. never (talk image start s) at fits)

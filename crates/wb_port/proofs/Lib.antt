@@ -1,4 +1,9 @@
+pub mod Circles
 pub mod EveryFacts
+pub mod EveryLaw
 pub mod EveryRuns
 pub mod EveryWalks
-pub mod EveryLaw
+pub mod Single
+pub mod Starts
+pub mod Steady
+pub mod Walks

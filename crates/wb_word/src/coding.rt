@@ -110,3 +110,6 @@ fn operation_bits(op: &OpWord) -> u32
         + (op.src.code() << 4)
         + op.dst.code()
 }
+
+#[cfg(test)]
+mod tests;

@@ -138,7 +138,7 @@ macro_rules! cond_table {
 }
 
 /// Whether a branch code names a condition.
-pub fn is_named(code: u16) -> bool
+pub(crate) fn is_named(code: u16) -> bool
     ensures { result ≡ is_named code }
 {
     cond_table!(to_named, code)

@@ -17,7 +17,7 @@ mod words;
 
 pub use codes::{Acc, Alu, Dpl, Dst, P, Src};
 pub use coding::{coding_laws, decode, encode};
-pub use conditions::{Cond, is_named};
+pub use conditions::Cond;
 pub use memory::OutOfMemory;
 pub use numbers::{Addr, Nibble, OtherCode, Spare, Word};
 pub use sides::Side;
