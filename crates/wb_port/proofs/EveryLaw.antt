@@ -145,13 +145,13 @@ module _ (image : Image) (k : ℕ) where
   found_free zero e c w b l g s works_here safe =
       let d : IsBroken e = subst IsBroken (sym w) b in
       safe (addr_at (place e))
-        (now image k true (moment e l g s) (Breach (addr_at (place e)))
-          (works_here e (broken_off e d.broken) ∙ breaks image k (moment e l g s) d.paced d.broken))
+      (now image k true (moment e l g s) (Breach (addr_at (place e)))
+      (works_here e (broken_off e d.broken) ∙ breaks image k (moment e l g s) d.paced d.broken))
   found_free (suc n) e c w b l g s works_here safe =
       let q = w.0 in
       found_free n (stepped image e) c w.1 b l g s works_here
-        (λ at h. safe at (later image k true (moment e l g s) (Steps (moment (stepped image e) l g s)) (Breach at)
-          (works_here e q.off ∙ executes image k (moment e l g s) q.paced (quiet_no_breach image k e q)) h))
+      (λ at h. safe at (later image k true (moment e l g s) (Steps (moment (stepped image e) l g s)) (Breach at)
+      (works_here e q.off ∙ executes image k (moment e l g s) q.paced (quiet_no_breach image k e q)) h))
 
   abbrev pub Found : List Access → Type 0
   Found l = (n : ℕ) (e c : Chip) → IsWalk image k n e c → IsBroken c → (g : List Access) (s : List ℕ) → IsSafe e l g s → ⊥
@@ -159,7 +159,7 @@ module _ (image : Image) (k : ℕ) where
   found_given : (a : Access) (l : List Access) → Found l → (n : ℕ) (e c : Chip) → IsWalk image k n e c → IsBroken c → (g : List Access) (s : List ℕ) → rqm e.machine ≡ true → IsSafe e (a ∷ l) g s → ⊥
   found_given a l rest n e c w b g s stands safe =
       rest n (applied image (event.Host a) e) (applied image (event.Host a) c) (walk_access image k a n e c w) (broken_access a c b)
-        (g ++ a ∷ []) (s ++ option_to_list (access_reply a e.machine)) (given_safe a e l g s stands safe)
+      (g ++ a ∷ []) (s ++ option_to_list (access_reply a e.machine)) (given_safe a e l g s stands safe)
 
   found_more : (a : Access) (l : List Access) → Found l → Found (a ∷ l)
   found_more a l rest zero e c w b g s safe = by_request (rqm e.machine) refl
@@ -169,8 +169,8 @@ module _ (image : Image) (k : ℕ) where
       by_request false h =
           let d : IsBroken e = subst IsBroken (sym w) b in
           safe (addr_at (place e))
-            (now image k true (moment e (a ∷ l) g s) (Breach (addr_at (place e)))
-              (works image k true e a l g s h ∙ breaks image k (moment e (a ∷ l) g s) d.paced d.broken))
+          (now image k true (moment e (a ∷ l) g s) (Breach (addr_at (place e)))
+          (works image k true e a l g s h ∙ breaks image k (moment e (a ∷ l) g s) d.paced d.broken))
   found_more a l rest (suc n) e c w b g s safe = by_request (rqm e.machine) refl (found_more a l rest n (stepped image e) c w.1 b g s)
     where
       by_request : (r : Bool) → rqm e.machine ≡ r → (IsSafe (stepped image e) (a ∷ l) g s → ⊥) → ⊥
@@ -254,7 +254,7 @@ module _ (image : Image) (k : ℕ) where
   walks_to (suc n) e m c w silent r =
       let q = w.0 in
       reaches_next e c (record { silent = sym (same_rqm e.machine m.machine (walk_port image k (suc n) e m w)) ∙ silent; paced = q.paced; fine = quiet_no_breach image k e q })
-        (walks_to n (stepped image e) m c w.1 silent r)
+      (walks_to n (stepped image e) m c w.1 silent r)
 
   reaches_then : (n : ℕ) (e c : Chip) → IsChain n e c → IsFree c → Reaches e (stepped image c)
   reaches_then zero e c r f = reaches_next e (stepped image c) (subst IsFree (sym r) f) (reaches_itself (stepped image e) (stepped image c) (ap (stepped image) r))
@@ -322,6 +322,7 @@ module _ (image : Image) (k : ℕ) where
         follows = record { steps = f.steps; middle = f.middle; walk = f.walk; near = inr (idle_beside image k c f.middle f.near asked poll i) };
       }
       by_idle false i asked poll = leaves c e f (leaving_by c asked poll i (in_pace c paced i))
+
       by_poll : (r : Bool) → is_poll image (place c) ≡ r → c.monitor.asked ≡ true → Advance c e
       by_poll true poll asked = by_idle (is_idle image c) refl asked poll
       by_poll false off asked = record {
@@ -331,10 +332,11 @@ module _ (image : Image) (k : ℕ) where
           steps = suc f.steps;
           middle = stepped image c;
           walk = walk_longer image k f.steps e c (follows_off image k c e f off)
-            (record { asked = asked; off = off; calm = calm_by c asked off fine; paced = in_pace c paced (not_idle_off c off) });
+              (record { asked = asked; off = off; calm = calm_by c asked off fine; paced = in_pace c paced (not_idle_off c off) });
           near = inl refl;
         };
       }
+
       by_asked : (r : Bool) → c.monitor.asked ≡ r → Advance c e
       by_asked true asked = by_poll (is_poll image (place c)) refl asked
       by_asked false u =
@@ -410,11 +412,11 @@ module _ (image : Image) (k : ℕ) where
       by_breach true b =
           let off = broken_off c b in
           absurd (found (talk_from image s (stepped image c)) f.steps e c (follows_off image k c e f off)
-            (record { paced = in_pace c paced.0 (not_idle_off c off); broken = b }) g p safe)
+          (record { paced = in_pace c paced.0 (not_idle_off c off); broken = b }) g p safe)
       by_breach false fine =
           let adv = advance c e f sane paced.0 fine in
           let h = rest adv.eager g p adv.follows (sane_step c sane) (unbroken_step c fine none) polite.1 paced.1
-              (chain_safe adv.reached.steps e adv.eager adv.reached.chain (talk_from image s (stepped image c)) g p safe) in
+          (chain_safe adv.reached.steps e adv.eager adv.reached.chain (talk_from image s (stepped image c)) g p safe) in
           record {
             answered = chain_answers adv.reached.steps e adv.eager adv.reached.chain (talk_from image s (stepped image c)) g p (p ++ said_from image s (stepped image c)) h.answered;
             unbroken = h.unbroken;
@@ -441,7 +443,7 @@ module _ (image : Image) (k : ℕ) where
       let same_talk : told (event.Host a) c ++ l ≡ a ∷ l = ap (λ (t : List Access). t ++ l) (told_standing a c stands) in
       let same_said : told_reply (event.Host a) c ≡ q = reply_standing a c stands ∙ ap (λ (o : Option ℕ). option_to_list o) (same_reply a e.machine c.machine port) in
       let h = rest (applied image (event.Host a) e) (g ++ a ∷ []) (p ++ q) (follows_access image k a c e f) (sane_access a c sane) none polite.1 paced.1
-          (given_safe a e l g p asks (subst (λ (t : List Access). IsSafe e t g p) same_talk safe)) in
+      (given_safe a e l g p asks (subst (λ (t : List Access). IsSafe e t g p) same_talk safe)) in
       let told_all : Answers e (a ∷ l) g p ((p ++ q) ++ x) = given_answers a e l g p ((p ++ q) ++ x) asks h.answered in
       let together : (p ++ q) ++ x ≡ p ++ (told_reply (event.Host a) c ++ x) = append_assoc p q x ∙ ap (λ (t : List ℕ). p ++ (t ++ x)) (sym same_said) in
       record {

@@ -18,7 +18,6 @@ use Rattle.wb_port.specs.Run.{Moment, Turn, Gives, Steps, Ends, give, go, is_wai
 abbrev pub moment : Chip → List Access → List Access → List ℕ → Moment
 moment c l g s = record { chip = c; given = g; left = l; said = s }
 
-
 module _ (image : Image) (k : ℕ) where
   pub gives : (held : Bool) (c : Chip) (a : Access) (l g : List Access) (s : List ℕ) → rqm c.machine ≡ true → turn image k held (moment c (a ∷ l) g s) ≡ Gives a (give image a l (moment c (a ∷ l) g s))
   unfolding turn

@@ -163,7 +163,7 @@ module _ (image : Image) (k : ℕ) where
         alike =
             ap (applied image (event.Host a)) b.alike
             ∙ (ap (λ (x : State). let d : Chip = record { machine = x; monitor = m.monitor } in d) (access_placed a (place c) m.machine)
-               ∙ ap (λ (at : ℕ). moved_to at (applied image (event.Host a) m)) (sym p));
+            ∙ ap (λ (at : ℕ). moved_to at (applied image (event.Host a) m)) (sym p));
         here = simp p b.here;
         there = simp q b.there;
         loop = simp (p, q) b.loop;
@@ -179,6 +179,7 @@ module _ (image : Image) (k : ℕ) where
     where
       moves : stepped image c ≡ moved_to (follow image (place c)) c
       moves = idle_moves image c idle
+
       at : (m : Chip) → c ≡ moved_to (place c) m → is_poll image (place m) ≡ true → gate image (place c) ≡ gate image (place m) → IsBeside (moved_to (follow image (place c)) c) m
       at m alike there loop = record {
         asked = asked;
@@ -187,6 +188,7 @@ module _ (image : Image) (k : ℕ) where
         there = there;
         loop = one_gate image (place c) poll ∙ loop;
       }
+
       go_by : IsNear c m → IsBeside (stepped image c) m
       go_by (inl e) = subst (λ (x : Chip). IsBeside x m) (sym moves) (at m (e ∙ ap (λ (d : Chip). moved_to (place d) m) (sym e)) (subst (λ (x : Chip). is_poll image (place x) ≡ true) e poll) (ap (λ (d : Chip). gate image (place d)) e))
       go_by (inr b) = subst (λ (x : Chip). IsBeside x m) (sym moves) (at m b.alike b.there b.loop)
