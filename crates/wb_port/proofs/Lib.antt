@@ -1,4 +1,5 @@
 pub mod Circles
+pub mod EveryCourse
 pub mod EveryFacts
 pub mod EveryLaw
 pub mod EveryRuns
