@@ -1,13 +1,12 @@
-// A library with one function.
+//! The ALU of the µPD77C25: sixteen operations on an accumulator, with its six flags.
+//!
+//! `alu` gives exactly the result and the flags of the table in `specs/Operation.antt`, which is written over
+//! exact whole and signed numbers. `flags` has the flags and the rules that chain them, `operate` the
+//! operations. No call takes memory.
 #![tactic(auto)]
 
-ghost use Rattle.std.specs.Prelude.{◌≡◌};
-ghost use Rattle.wb_alu.specs.Echo.{echo_of};
+mod flags;
+mod operate;
 
-// The `ensures` clause is the contract: what `echo` returns is `echo_of` of its argument, a definition
-// in `specs/Echo.antt`, which a caller's clause can cite too.
-pub fn echo(x: usize) -> usize
-    ensures { result ≡ echo_of x }
-{
-    x
-}
+pub use flags::Flags;
+pub use operate::alu;

@@ -1,13 +1,10 @@
-// A library with one function.
+//! The µPD77C25 as a table machine.
 #![tactic(auto)]
 
-ghost use Rattle.std.specs.Prelude.{◌≡◌};
-ghost use Rattle.wb_machine.specs.Echo.{echo_of};
+mod effects;
+mod jumps;
+mod processor;
+mod registers;
 
-// The `ensures` clause is the contract: what `echo` returns is `echo_of` of its argument, a definition
-// in `specs/Echo.antt`, which a caller's clause can cite too.
-pub fn echo(x: usize) -> usize
-    ensures { result ≡ echo_of x }
-{
-    x
-}
+pub use processor::Machine;
+pub use registers::Regs;

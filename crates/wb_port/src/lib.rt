@@ -1,13 +1,19 @@
-// A library with one function.
+//! The host port of the µPD77C25 and everything that happens between the chip and its host.
 #![tactic(auto)]
 
-ghost use Rattle.std.specs.Prelude.{◌≡◌};
-ghost use Rattle.wb_port.specs.Echo.{echo_of};
+mod accesses;
+mod chips;
+mod laws_every;
+mod lists;
+mod points;
+mod port;
+mod runs;
 
-// The `ensures` clause is the contract: what `echo` returns is `echo_of` of its argument, a definition
-// in `specs/Echo.antt`, which a caller's clause can cite too.
-pub fn echo(x: usize) -> usize
-    ensures { result ≡ echo_of x }
-{
-    x
-}
+pub use accesses::{Access, Event, Kind, Letter, Power};
+pub use chips::{Chip, Monitor};
+pub use laws_every::calm_words_commute;
+pub use lists::{Kinds, Replies};
+pub use points::Point;
+pub use port::{halfway, read, requested, status, write};
+pub use runs::Run;
+pub use wb_word::Side;

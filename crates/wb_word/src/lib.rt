@@ -12,6 +12,7 @@ mod conditions;
 mod memory;
 mod numbers;
 mod sides;
+mod table;
 mod words;
 
 pub use codes::{Acc, Alu, Dpl, Dst, P, Src};
@@ -20,4 +21,5 @@ pub use conditions::Cond;
 pub use memory::OutOfMemory;
 pub use numbers::{Addr, Nibble, OtherCode, Spare, Word};
 pub use sides::Side;
+pub use table::Rom;
 pub use words::{Instr, OpWord};

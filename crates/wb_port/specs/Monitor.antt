@@ -1,0 +1,62 @@
+-- What an observer keeps beside the chip: whether a request is asked, how many instructions have been
+-- executed since the last request, and the first breach.
+use Rattle.std.specs.Prelude.{ℕ, ◌+◌, ◌-◌, ◌^◌, min, Bool, true, false, not, ◌&&◌, ◌||◌, if◌then◌else◌, Option, Some, None}
+use Rattle.wb_word.specs.Encoding.{addr_at}
+use Rattle.wb_word.specs.declared.numbers.Addr.{Addr}
+use Rattle.wb_rom.specs.declared.images.Image.{Image}
+use Rattle.wb_machine.specs.Next.{next}
+use Rattle.wb_port.specs.declared.chips.Monitor.{Monitor}
+use Rattle.wb_port.specs.declared.chips.Chip.{Chip}
+use Rattle.wb_port.specs.Port.{rqm}
+use Rattle.wb_port.specs.Wait.{touches, raises_request, is_test, is_poll, word_of}
+
+-- the address of the next instruction
+abbrev pub place : Chip → ℕ
+place c = c.machine.regs.pc
+
+-- the word of the next instruction
+abbrev pub word_at : Image → Chip → ℕ
+word_at image c = word_of image (place c)
+
+-- the next instruction is idle: a request is asked, and the chip waits at a poll, where the test finds RQM
+unfoldable pub is_idle : Image → Chip → Bool
+is_idle image c =
+    c.monitor.asked && is_poll image (place c) && (not (is_test (word_at image c)) || rqm c.machine)
+
+-- the next instruction is a breach: it touches the port while a request is asked, and it isn't in a poll
+unfoldable pub is_breach : Image → Chip → Bool
+is_breach image c =
+    c.monitor.asked && touches (word_at image c) && not (is_poll image (place c))
+
+-- the next instruction leaves a poll: its test finds that RQM is 0
+unfoldable pub is_leaving : Image → Chip → Bool
+is_leaving image c =
+    is_poll image (place c) && is_test (word_at image c) && not (rqm c.machine)
+
+-- the first breach stays, and a new one is kept where there was none
+abbrev pub first_breach : Option Addr → Bool → ℕ → Option Addr
+first_breach (Some at) _ _ = Some at
+first_breach None true at = Some (addr_at at)
+first_breach None false _ = None
+
+-- the monitor after the next instruction: an idle one isn't counted, a request begins the count anew, and
+-- a request is asked until the test of a poll finds that it is over
+unfoldable pub observed : Image → Chip → Monitor
+observed image c =
+    record {
+      asked =
+          raises_request (word_at image c) || (c.monitor.asked && not (is_leaving image c));
+      count =
+          if is_idle image c
+          then c.monitor.count
+          else if raises_request (word_at image c) then 0 else c.monitor.count + 1;
+      breach = first_breach c.monitor.breach (is_breach image c) (place c);
+    }
+
+-- the chip after one instruction
+unfoldable pub stepped : Image → Chip → Chip
+stepped image c = record { machine = next image c.machine; monitor = observed image c }
+
+-- the chip whose count stays at the greatest number of 64 bits
+abbrev pub capped : Chip → Chip
+capped c = record c { monitor = record c.monitor { count = min c.monitor.count (2 ^ 64 - 1) } }

@@ -1,0 +1,33 @@
+-- A dialogue as contracts see it.
+use Rattle.std.specs.Prelude.{◌≡◌, ℕ, ◌+◌, ◌<◌, ◌^◌, List, [], ◌∷◌, length, All}
+use Rattle.wb_port.specs.declared.accesses.Access.{Access}
+use Rattle.wb_port.specs.declared.accesses.Access.TheVariants as access
+use Rattle.wb_port.specs.declared.accesses.Kind.{Kind}
+use Rattle.wb_port.specs.declared.accesses.Kind.TheVariants as kind
+
+-- the content of the data RAM at power-up, and the accesses of the host in order
+pub record Talk : Type 0 where
+  pub start : List ℕ
+  pub accesses : List Access
+
+-- a content of the data RAM: 256 words of 16 bits
+pub record IsStart (start : List ℕ) : Type 0 where
+  pub len : length start ≡ 256
+  pub words : All (λ word. word < 65536) start
+
+-- a written byte is a byte
+abbrev pub IsByteAccess : Access → Type 0
+IsByteAccess access.Status = Unit {0}
+IsByteAccess access.Read = Unit {0}
+IsByteAccess (access.Write byte) = byte < 256
+
+-- the kinds of the data transfers among some accesses, in order
+abbrev pub kinds : List Access → List Kind
+kinds [] = []
+kinds (access.Status ∷ rest) = kinds rest
+kinds (access.Read ∷ rest) = kind.Read ∷ kinds rest
+kinds (access.Write _ ∷ rest) = kind.Write ∷ kinds rest
+
+-- the length of a dialogue: its reads and writes
+abbrev pub transfers : List Access → ℕ
+transfers accesses = length (kinds accesses)
