@@ -1,1 +1,4 @@
+pub mod CalmReads
+pub mod CalmNext
+pub mod CalmRequests
 pub mod EveryFacts
