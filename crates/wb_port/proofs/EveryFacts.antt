@@ -10,6 +10,7 @@ use Rattle.wb_port.specs.Port.{after_read, after_write, drc, drs}
 use Rattle.wb_port.specs.Wait.{raises_request, touches}
 use Rattle.wb_port.specs.Facts.{CalmWordsCommute, CalmWordsKeepThePort, OnlyRaisingWordsRequest, RaisingWordsRequest, RaisingWordsTouch, PollsRaiseNothing, PollsFollowPolls, GatesAreNear, PlacesComeNearer, TestsAreGates, LoopsHaveOneGate, IdleInstructionsMoveAlone, StatusReadsChangeNothing, AccessesRaiseNothing}
 use Rattle.wb_port.proofs.CalmNext.{calm_next, calm_next_dr, calm_next_sr}
+use Rattle.wb_port.proofs.LoopsTurn.{poll_turned, poll_plain}
 use Rattle.wb_port.proofs.CalmRequests.{quiet_next, loud_next, loud_touches, access_down}
 
 pub calm_commutes : CalmWordsCommute
@@ -37,7 +38,7 @@ pub poll_raises_nothing : PollsRaiseNothing
 poll_raises_nothing image at poll = ?
 
 pub poll_follows : PollsFollowPolls
-poll_follows image at poll = ?
+poll_follows image at poll = poll_turned image at poll
 
 pub gate_near : GatesAreNear
 gate_near image at poll = ?
