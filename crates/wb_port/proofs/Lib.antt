@@ -1,5 +1,7 @@
-pub mod CalmReads
+pub mod CalmIdle
 pub mod CalmNext
+pub mod CalmReads
 pub mod CalmRequests
-pub mod LoopsTurn
 pub mod EveryFacts
+pub mod LoopsGate
+pub mod LoopsTurn
