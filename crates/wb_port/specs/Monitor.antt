@@ -39,17 +39,20 @@ first_breach (Some at) _ _ = Some at
 first_breach None true at = Some (addr_at at)
 first_breach None false _ = None
 
--- the monitor after the next instruction: an idle one isn't counted, a request begins the count anew, and
--- a request is asked until the test of a poll finds that it is over
+-- the count after an instruction: an idle one isn't counted, and a request begins the count anew
+abbrev pub count_after : Bool → Bool → ℕ → ℕ
+count_after true _ count = count
+count_after false true count = 0
+count_after false false count = count + 1
+
+-- the monitor after the next instruction: a request is asked until the test of a poll finds that it is over
 unfoldable pub observed : Image → Chip → Monitor
 observed image c =
     record {
       asked =
           raises_request (word_at image c) || (c.monitor.asked && not (is_leaving image c));
       count =
-          if is_idle image c
-          then c.monitor.count
-          else if raises_request (word_at image c) then 0 else c.monitor.count + 1;
+          count_after (is_idle image c) (raises_request (word_at image c)) c.monitor.count;
       breach = first_breach c.monitor.breach (is_breach image c) (place c);
     }
 
@@ -57,6 +60,10 @@ observed image c =
 unfoldable pub stepped : Image → Chip → Chip
 stepped image c = record { machine = next image c.machine; monitor = observed image c }
 
--- the chip whose count stays at the greatest number of 64 bits
+-- the monitor whose count stays at the greatest number of 64 bits
+abbrev pub capped_monitor : Monitor → Monitor
+capped_monitor m = record m { count = min m.count (2 ^ 64 - 1) }
+
+-- the chip with such a monitor
 abbrev pub capped : Chip → Chip
-capped c = record c { monitor = record c.monitor { count = min c.monitor.count (2 ^ 64 - 1) } }
+capped c = record c { monitor = capped_monitor c.monitor }

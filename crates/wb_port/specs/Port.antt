@@ -1,12 +1,13 @@
 -- The host port: what an access of the host gives and what it leaves, over the state of the machine.
 use Rattle.std.specs.Prelude.{ℕ, Bool, true, false, not, ◌+◌, ◌*◌, ◌/◌, ◌%◌, ◌==◌, if◌then◌else◌, Option, Some, None}
 use Rattle.wb_machine.specs.State.{State}
+use Rattle.wb_machine.specs.State.{rqm as is_request}
 use Rattle.wb_port.specs.declared.accesses.Access.{Access}
 use Rattle.wb_port.specs.declared.accesses.Access.TheVariants as access
 
 -- a request stands: RQM, bit 15 of the status register
 unfoldable pub rqm : State → Bool
-rqm m = m.regs.sr / 32768 % 2 == 1
+rqm m = is_request m.regs
 
 -- the first half of a word was transferred: DRS, bit 12
 unfoldable pub drs : State → Bool

@@ -1,5 +1,5 @@
 -- Words by what they do to the host port, and the wait loops in which a chip polls its request.
-use Rattle.std.specs.Prelude.{ℕ, zero, suc, ◌+◌, ◌%◌, Bool, true, false, not, ◌&&◌, ◌||◌, ◌==◌, if◌then◌else◌, List, [], ◌∷◌, slice_index, count_by}
+use Rattle.std.specs.Prelude.{ℕ, zero, suc, ◌+◌, ◌%◌, Bool, true, false, not, ◌&&◌, ◌||◌, ◌==◌, if◌then◌else◌, List, [], ◌∷◌, slice_index}
 use Rattle.std.specs.List.{list_all, list_any}
 use Rattle.wb_word.specs.Encoding.{instr_of}
 use Rattle.wb_word.specs.declared.codes.Src.{Src}
@@ -112,13 +112,18 @@ abbrev pub all_different : List ℕ → Bool
 all_different [] = true
 all_different (x ∷ xs) = not (list_any (λ y. y == x) xs) && all_different xs
 
+-- how many of the words at these addresses test RQM
+abbrev pub tests_among : Image → List ℕ → ℕ
+tests_among image [] = 0
+tests_among image (at ∷ rest) = (if is_test (word_of image at) then 1 else 0) + tests_among image rest
+
 -- the address begins a loop of so many words: their addresses are different, the words are plain,
 -- exactly one of them is a test of RQM, and after the last comes the first
 unfoldable pub is_loop : Image → ℕ → ℕ → Bool
 is_loop image at m =
     all_different (walk image m at)
     && list_all (λ a. is_plain (word_of image a)) (walk image m at)
-    && count_by (λ a. is_test (word_of image a)) (walk image m at) == 1
+    && tests_among image (walk image m at) == 1
     && follow_times image m at == at
 
 -- the address is a poll: it begins a loop of one to eight words
