@@ -1,11 +1,9 @@
 -- The test of a wait loop: how far it is from each place of the loop, and that it is the same one for all of them.
 use Rattle.std.proofs.Common.{◌≡◌, ℕ, zero, suc, ◌<◌, ◌≤◌, ◌+◌, Bool, true, false, ◌&&◌, List, [], ◌∷◌, refl, sym, ap, subst, arith, ◌∙◌, ◌⊎◌, inl, inr, cond}
 use Rattle.std.specs.Prelude.{if◌then◌else◌}
-use Rattle.std.specs.List.{sum_by}
 use Rattle.std.proofs.lemmas.Bool.{cases_Bool}
-use Rattle.std.proofs.lemmas.List.Sums.{sum_by-cons}
 use Rattle.wb_rom.specs.declared.images.Image.{Image}
-use Rattle.wb_port.specs.Wait.{is_test, word_of, follow, follow_times, walk, is_poll, before_test, to_gate}
+use Rattle.wb_port.specs.Wait.{is_test, word_of, follow, follow_times, walk, tests_among, is_poll, before_test, to_gate}
 use Rattle.wb_port.specs.Facts.{gate}
 use Rattle.wb_port.proofs.LoopsTurn.{Turning, Turns, turns_of}
 
@@ -35,13 +33,13 @@ near_by false c x m near some =
     omega arith
 
 -- where a test is among some words, one is found
-before_near : (image : Image) (m at : ℕ) → 0 < sum_by (tested image) (walk image m at) → before_test image m at < m
+before_near : (image : Image) (m at : ℕ) → 0 < tests_among image (walk image m at) → before_test image m at < m
 before_near image zero at some = absurd (omega arith)
 before_near image (suc m) at some =
-    near_by (is_test (word_of image at)) (sum_by (tested image) (walk image m (follow image at)))
+    near_by (is_test (word_of image at)) (tests_among image (walk image m (follow image at)))
     (before_test image m (follow image at)) m
     (λ h. before_near image m (follow image at) h)
-    (subst (λ n. 0 < n) (sum_by-cons (tested image) at (walk image m (follow image at))) some)
+    some
 
 before_some : (image : Image) (n at : ℕ) → Turning image n at → before_test image (suc n) at < suc n
 before_some image n at t =
@@ -82,14 +80,13 @@ gate_nearer image at poll other =
 
 -- words of which none is a test, and then one
 before_last : (image : Image) (n at : ℕ)
-    → sum_by (tested image) (walk image n at) ≡ 0 → is_test (word_of image (follow_times image n at)) ≡ true
+    → tests_among image (walk image n at) ≡ 0 → is_test (word_of image (follow_times image n at)) ≡ true
     → before_test image (suc n) at ≡ n
 before_last image zero at none test = before_test_here image 0 at test
 before_last image (suc n) at none test =
-    let e : sum_by (tested image) (walk image (suc n) at) ≡ tested image at + sum_by (tested image) (walk image n (follow image at)) =
-    sum_by-cons (tested image) at (walk image n (follow image at)) in
+    let e : tested image at + tests_among image (walk image n (follow image at)) ≡ 0 = none in
     let first : tested image at ≡ 0 = omega arith in
-    let rest : sum_by (tested image) (walk image n (follow image at)) ≡ 0 = omega arith in
+    let rest : tests_among image (walk image n (follow image at)) ≡ 0 = omega arith in
     before_test_later image (suc n) at (no_test (is_test (word_of image at)) first)
     ∙ ap suc (before_last image n (follow image at) rest test)
   where
@@ -105,9 +102,8 @@ after_gate image at poll test =
     let turning = t.turning in
     let n = t.rest in
     let one : tested image at ≡ 1 = ap (λ b. cond b 1 0) test in
-    let all : tested image at + sum_by (tested image) (walk image n (follow image at)) ≡ 1 =
-    sym (sum_by-cons (tested image) at (walk image n (follow image at))) ∙ turning.once in
-    let none : sum_by (tested image) (walk image n (follow image at)) ≡ 0 = omega arith in
+    let all : tested image at + tests_among image (walk image n (follow image at)) ≡ 1 = turning.once in
+    let none : tests_among image (walk image n (follow image at)) ≡ 0 = omega arith in
     let back : follow_times image n (follow image at) ≡ at = turning.returns in
     let last : is_test (word_of image (follow_times image n (follow image at))) ≡ true =
     ap (λ a. is_test (word_of image a)) back ∙ test in

@@ -1,12 +1,11 @@
 -- A wait loop turns: from the address after its first it is the same loop, begun one word later.
 use Rattle.std.proofs.Common.{◌≡◌, ℕ, zero, suc, ◌<◌, ◌+◌, Bool, true, false, not, ◌&&◌, ◌||◌, List, [], ◌∷◌, ◌++◌, refl, sym, ap, subst, arith, ◌∙◌, ◌⊎◌, inl, inr, cond}
-use Rattle.std.specs.Prelude.{◌==◌, count_by, nat_lt, slice_index}
-use Rattle.std.specs.List.{list_all, list_any, sum_by}
+use Rattle.std.specs.Prelude.{◌==◌, nat_lt, slice_index}
+use Rattle.std.specs.List.{list_all, list_any}
 use Rattle.std.proofs.lemmas.Bool.{and_parts, and_from, or_parts, or_from, or_cases, or_left, or_right, not-true, not_from_false, eqb-true, eqb-false, eq-eqb, ne_eqb, ltb-true, true≢false}
 use Rattle.std.proofs.lemmas.List.Folds.{list_all-append, list_any-append}
-use Rattle.std.proofs.lemmas.List.Sums.{sum_by_push, sum_by-cons}
 use Rattle.wb_rom.specs.declared.images.Image.{Image}
-use Rattle.wb_port.specs.Wait.{is_test, is_plain, word_of, follow, follow_times, walk, all_different, is_loop, is_poll}
+use Rattle.wb_port.specs.Wait.{is_test, is_plain, word_of, follow, follow_times, walk, all_different, tests_among, is_loop, is_poll}
 
 pub walk_push : (image : Image) (n at : ℕ) → walk image (suc n) at ≡ walk image n at ++ follow_times image n at ∷ []
 walk_push image zero at = refl
@@ -33,11 +32,16 @@ all_turned p x xs h =
     let parts = and_parts _ _ h in
     list_all-append p xs (x ∷ []) ∙ and_from _ _ parts.1 (and_from _ _ parts.0 refl)
 
+tests_turned : (image : Image) (x : ℕ) (xs : List ℕ)
+    → tests_among image (xs ++ x ∷ []) ≡ cond (is_test (word_of image x)) 1 0 + tests_among image xs
+tests_turned image x [] = refl
+tests_turned image x (y ∷ ys) = omega (arith, tests_turned image x ys)
+
 -- the addresses of a loop of `suc n` words that begins at `at`
 pub record Turning (image : Image) (n at : ℕ) : Type 0 where
   pub different : all_different (walk image (suc n) at) ≡ true
   pub plain : list_all (λ a. is_plain (word_of image a)) (walk image (suc n) at) ≡ true
-  pub once : count_by (λ a. is_test (word_of image a)) (walk image (suc n) at) ≡ 1
+  pub once : tests_among image (walk image (suc n) at) ≡ 1
   pub returns : follow_times image (suc n) at ≡ at
 
 turning_of : (image : Image) (n at : ℕ) → is_loop image at (suc n) ≡ true → Turning image n at
@@ -58,9 +62,6 @@ turned image n at t =
     let b = follow image at in
     let e : walk image (suc n) b ≡ walk image n b ++ at ∷ [] =
     walk_push image n b ∙ ap (λ x. walk image n b ++ x ∷ []) t.returns in
-    let test = λ (a : ℕ). cond (is_test (word_of image a)) 1 0 in
-    let first : test at + sum_by test (walk image n b) ≡ 1 = sym (sum_by-cons test at (walk image n b)) ∙ t.once in
-    let last : sum_by test (walk image n b) + test at ≡ 1 = omega arith in
     record {
       different =
           subst (λ xs. all_different xs ≡ true) (sym e) (different_turned at (walk image n b) t.different);
@@ -68,8 +69,7 @@ turned image n at t =
           subst (λ xs. list_all (λ a. is_plain (word_of image a)) xs ≡ true) (sym e)
           (all_turned (λ a. is_plain (word_of image a)) at (walk image n b) t.plain);
       once =
-          subst (λ xs. count_by (λ a. is_test (word_of image a)) xs ≡ 1) (sym e)
-          (sum_by_push test (walk image n b) at ∙ last);
+          subst (λ xs. tests_among image xs ≡ 1) (sym e) (tests_turned image at (walk image n b) ∙ t.once);
       returns = follow_last image n b ∙ ap (follow image) t.returns;
     }
 
