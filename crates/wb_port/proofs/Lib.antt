@@ -2,4 +2,5 @@ pub mod Circles
 pub mod Single
 pub mod Starts
 pub mod Steady
+pub mod Turning
 pub mod Walks
