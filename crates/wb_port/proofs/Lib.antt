@@ -14,4 +14,5 @@ pub mod LoopsTurn
 pub mod Single
 pub mod Starts
 pub mod Steady
+pub mod Turning
 pub mod Walks
