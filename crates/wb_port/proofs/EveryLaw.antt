@@ -422,12 +422,12 @@ module _ (image : Image) (k : ℕ) where
             unbroken = h.unbroken;
           }
 
-  told_standing : (a : Access) (c : Chip) → rqm c.machine ≡ true → told (event.Host a) c ≡ a ∷ []
+  pub told_standing : (a : Access) (c : Chip) → rqm c.machine ≡ true → told (event.Host a) c ≡ a ∷ []
   told_standing access.Status c h = simp h
   told_standing access.Read c h = refl
   told_standing (access.Write b) c h = refl
 
-  reply_standing : (a : Access) (c : Chip) → rqm c.machine ≡ true → told_reply (event.Host a) c ≡ option_to_list (access_reply a c.machine)
+  pub reply_standing : (a : Access) (c : Chip) → rqm c.machine ≡ true → told_reply (event.Host a) c ≡ option_to_list (access_reply a c.machine)
   reply_standing access.Status c h = simp h
   reply_standing access.Read c h = refl
   reply_standing (access.Write b) c h = refl

@@ -4,6 +4,7 @@ pub mod CalmReads
 pub mod CalmRequests
 pub mod Circles
 pub mod EveryCourse
+pub mod EveryEager
 pub mod EveryFacts
 pub mod EveryLaw
 pub mod EveryRuns

@@ -1,13 +1,31 @@
--- What schedules and runs have to do with one another: true of every image, every start and every pace.
-use Rattle.std.specs.Prelude.{◌≡◌, ℕ, true, List}
+-- What schedules, runs and dialogues have to do with one another: true of every image, every start and every pace.
+use Rattle.std.specs.Prelude.{◌≡◌, ◌≢◌, ◌↔◌, ℕ, ◌≤◌, Bool, true, false, List, [], ◌∷◌, ◌++◌, ◌⊎◌, length, All, AllPairs, Contains}
+use Rattle.std.specs.Option.{option_to_list}
 use Rattle.wb_word.specs.declared.numbers.Addr.{Addr}
+use Rattle.wb_word.specs.declared.sides.Side.{Side}
 use Rattle.wb_rom.specs.declared.images.Image.{Image}
+use Rattle.wb_port.specs.declared.accesses.Access.{Access}
 use Rattle.wb_port.specs.declared.accesses.Event.{Event}
+use Rattle.wb_port.specs.declared.accesses.Event.TheVariants as event
 use Rattle.wb_port.specs.declared.accesses.Letter.{Letter}
 use Rattle.wb_port.specs.declared.accesses.Power.{Power}
-use Rattle.wb_port.specs.Schedule.{talk}
-use Rattle.wb_port.specs.Verdicts.{Breaks}
-use Rattle.wb_port.specs.Alike.{IsObedient, IsFaithful, EverySchedule}
+use Rattle.wb_port.specs.declared.chips.Chip.{Chip}
+use Rattle.wb_port.specs.declared.points.Point.{Point}
+use Rattle.wb_port.specs.declared.runs.Run.{Run}
+use Rattle.wb_port.specs.declared.runs.Run.TheVariants.{Answered}
+use Rattle.wb_port.specs.Port.{rqm, access_reply}
+use Rattle.wb_port.specs.Schedule.{powered, applied, talk, said}
+use Rattle.wb_port.specs.Talk.{Talk, kinds}
+use Rattle.wb_port.specs.Dialogue.{Fits}
+use Rattle.wb_port.specs.Run.{EndsAs}
+use Rattle.wb_port.specs.Course.{strides, RestsAt, StopsAs, Ran, Given, AsksAfter, StopsBefore, StopsAfter, IsStop, transfers_of}
+use Rattle.wb_port.specs.Verdicts.{Breaks, Differs}
+use Rattle.wb_port.specs.Points.{Passes, IsTransfer, point_of}
+use Rattle.wb_port.specs.Alike.{IsObedient, IsFaithful, AnswersAlike, NeverBreaches, EverySchedule}
+
+-- a dialogue by its start and its accesses
+abbrev pub dialogue : List ℕ → List Access → Talk
+dialogue start accesses = record { start = start; accesses = accesses }
 
 -- An obedient schedule is faithful where the held run of its own talk doesn't breach: then the plain run of
 -- the talk is answered with the bytes that the schedule said, and the schedule saw no breach.
@@ -22,3 +40,37 @@ OwnTalkSuffices =
 abbrev pub ObedientSchedulesAreFaithful : Type 0
 ObedientSchedulesAreFaithful =
     (image : Image) (n k : ℕ) (shape : List Letter) (power : Power) → EverySchedule image n k shape power
+
+-- an obedient schedule that holds the dialogue and says these bytes
+pub record IsSpoken (image : Image) (k : ℕ) (d : Talk) (bytes : List ℕ) : Type 0 where
+  pub schedule : List Event
+  pub obedient : IsObedient image k d.start schedule
+  pub talks : talk image d.start schedule ≡ d
+  pub says : said image d.start schedule ≡ bytes
+
+-- An eager host is a host: a plain run that is answered is an obedient schedule that says the replies.
+abbrev pub AnsweredRunsAreSchedules : Type 0
+AnsweredRunsAreSchedules =
+    (image : Image) (k : ℕ) (d : Talk) (replies : List ℕ)
+    → EndsAs image k false d (Answered replies) → IsSpoken image k d replies
+
+-- Where two images differ in a fitting dialogue, they don't answer alike.
+abbrev pub DifferencesRefute : Type 0
+DifferencesRefute =
+    (a b : Image) (n k : ℕ) (shape : List Letter) (power : Power) (d : Talk)
+    → Fits n shape power d → Differs a b d k → AnswersAlike a b n k shape power → ⊥
+
+-- the two images give the same replies in each fitting dialogue that both answer
+abbrev pub RepliesAlike : Image → Image → ℕ → ℕ → List Letter → Power → Type 0
+RepliesAlike a b n k shape power =
+    (d : Talk) (x y : List ℕ)
+    → Fits n shape power d
+    → EndsAs a k false d (Answered x) → EndsAs b k false d (Answered y) → x ≡ y
+
+-- Two images answer alike where neither breaches in the held run of a fitting dialogue, and both give the same
+-- replies in each fitting dialogue that both answer.
+abbrev pub RepliesDecide : Type 0
+RepliesDecide =
+    (a b : Image) (n k : ℕ) (shape : List Letter) (power : Power)
+    → NeverBreaches a n k shape power → NeverBreaches b n k shape power
+    → RepliesAlike a b n k shape power → AnswersAlike a b n k shape power
