@@ -284,7 +284,7 @@ module _ (image : Image) (k : ℕ) where
   unfolding is_idle
   not_idle_unasked c u = simp u
 
-  not_idle_off : (c : Chip) → is_poll image (place c) ≡ false → is_idle image c ≡ false
+  pub not_idle_off : (c : Chip) → is_poll image (place c) ≡ false → is_idle image c ≡ false
   unfolding is_idle
   not_idle_off c off = let h = and_right c.monitor.asked false refl in simp (off, h)
 
@@ -296,7 +296,7 @@ module _ (image : Image) (k : ℕ) where
   unfolding is_breach
   breach_by c asked off touching = simp (asked, off, touching)
 
-  calm_by : (c : Chip) → c.monitor.asked ≡ true → is_poll image (place c) ≡ false → is_breach image c ≡ false → touches (word_at image c) ≡ false
+  pub calm_by : (c : Chip) → c.monitor.asked ≡ true → is_poll image (place c) ≡ false → is_breach image c ≡ false → touches (word_at image c) ≡ false
   calm_by c asked off fine = false_from_ne_true (touches (word_at image c)) (λ t. both_ways (is_breach image c) fine (breach_by c asked off t))
 
   leaving_by : (c : Chip) → c.monitor.asked ≡ true → is_poll image (place c) ≡ true → is_idle image c ≡ false → (c.monitor.count == k) ≡ false → IsLeavingNow c
@@ -352,7 +352,7 @@ module _ (image : Image) (k : ℕ) where
             follows = follows_itself image k (stepped image c) (stepped image c) refl;
           }
 
-  sane_raised : (c : Chip) → raises_request (word_at image c) ≡ true → (stepped image c).monitor.asked ≡ true
+  pub sane_raised : (c : Chip) → raises_request (word_at image c) ≡ true → (stepped image c).monitor.asked ≡ true
   unfolding stepped observed
   sane_raised c e = simp e
 
@@ -366,7 +366,7 @@ module _ (image : Image) (k : ℕ) where
   unfolding stepped observed
   sane_kept c e asked stays = simp (e, asked, stays)
 
-  machine_stepped : (c : Chip) → (stepped image c).machine ≡ next image c.machine
+  pub machine_stepped : (c : Chip) → (stepped image c).machine ≡ next image c.machine
   unfolding stepped
   machine_stepped c = refl
 

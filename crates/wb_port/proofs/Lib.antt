@@ -7,6 +7,8 @@ pub mod EveryCourse
 pub mod EveryEager
 pub mod EveryFacts
 pub mod EveryLaw
+pub mod EveryPigeon
+pub mod EveryRequests
 pub mod EveryRuns
 pub mod EveryStops
 pub mod EveryWalks

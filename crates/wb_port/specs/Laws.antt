@@ -74,3 +74,148 @@ RepliesDecide =
     (a b : Image) (n k : ℕ) (shape : List Letter) (power : Power)
     → NeverBreaches a n k shape power → NeverBreaches b n k shape power
     → RepliesAlike a b n k shape power → AnswersAlike a b n k shape power
+
+-- The two images answer alike at each request: after the same data transfers from the same start, an access at
+-- the first request gives the same on both, wherever the dialogue with this access at its end fits.
+abbrev pub RequestsAlike : Image → Image → ℕ → ℕ → List Letter → Power → Type 0
+RequestsAlike a b n k shape power =
+    (start : List ℕ) (front : List Access) (x : Access) (c d : Chip)
+    → All IsTransfer front → Fits n shape power (dialogue start (front ++ x ∷ []))
+    → AsksAfter a k front (powered start) c → AsksAfter b k front (powered start) d
+    → access_reply x c.machine ≡ access_reply x d.machine
+
+-- Two images that answer alike at each request answer each dialogue alike, status reads included.
+abbrev pub RequestsDecide : Type 0
+RequestsDecide =
+    (a b : Image) (n k : ℕ) (shape : List Letter) (power : Power)
+    → RequestsAlike a b n k shape power → RepliesAlike a b n k shape power
+
+-- A run has one end at most.
+abbrev pub RunsHaveOneEnd : Type 0
+RunsHaveOneEnd =
+    (image : Image) (k : ℕ) (held : Bool) (d : Talk) (x y : Run)
+    → EndsAs image k held d x → EndsAs image k held d y → x ≡ y
+
+-- A run ends as its course says.
+abbrev pub RunsFollowTheirCourse : Type 0
+RunsFollowTheirCourse =
+    (image : Image) (k : ℕ) (held : Bool) (d : Talk) (end : Run)
+    → EndsAs image k held d end ↔ Ran image k held d.accesses (powered d.start) [] end
+
+-- A chip comes to one request after some accesses.
+abbrev pub RequestsAreOne : Type 0
+RequestsAreOne =
+    (image : Image) (k : ℕ) (accesses : List Access) (c d e : Chip)
+    → AsksAfter image k accesses c d → AsksAfter image k accesses c e → d ≡ e
+
+-- A chip at which some accesses and one more were given is the one at the request after those, with that one given.
+abbrev pub LastAccessIsGivenAtARequest : Type 0
+LastAccessIsGivenAtARequest =
+    (image : Image) (k : ℕ) (front : List Access) (x : Access) (c d : Chip)
+    → Given image k (front ++ x ∷ []) c d
+      ↔ ((b : Chip) × AsksAfter image k front c b × (applied image (event.Host x) b ≡ d))
+
+-- what the replies of some accesses and one more are: those of the first, and the last one's, at its request
+pub record EndsByReply (image : Image) (k : ℕ) (start : List ℕ) (front : List Access) (x : Access) (replies : List ℕ) : Type 0 where
+  pub earlier : List ℕ
+  pub answered : EndsAs image k false (dialogue start front) (Answered earlier)
+  pub asking : Chip
+  pub asks : AsksAfter image k front (powered start) asking
+  pub sum : replies ≡ earlier ++ option_to_list (access_reply x asking.machine)
+
+-- A plain run with one access more is answered where the shorter one is and a request follows it.
+abbrev pub LastReplyIsGivenAtARequest : Type 0
+LastReplyIsGivenAtARequest =
+    (image : Image) (k : ℕ) (start : List ℕ) (front : List Access) (x : Access) (replies : List ℕ)
+    → EndsAs image k false (dialogue start (front ++ x ∷ [])) (Answered replies)
+      ↔ EndsByReply image k start front x replies
+
+-- A held run overruns or breaches before its last access, or after it.
+abbrev pub HeldRunsStopBeforeOrAfter : Type 0
+HeldRunsStopBeforeOrAfter =
+    (image : Image) (k : ℕ) (start : List ℕ) (accesses : List Access) (end : Run)
+    → IsStop end
+    → EndsAs image k true (dialogue start accesses) end
+      ↔ (StopsBefore image k accesses (powered start) end ⊎ StopsAfter image k accesses (powered start) end)
+
+-- With one access more, a run stops before its last access where it stopped before or on the way to a request.
+abbrev pub LongerRunsStopBefore : Type 0
+LongerRunsStopBefore =
+    (image : Image) (k : ℕ) (front : List Access) (x : Access) (c : Chip) (end : Run)
+    → StopsBefore image k (front ++ x ∷ []) c end
+      ↔ (StopsBefore image k front c end
+         ⊎ ((b : Chip) × Given image k front c b × StopsAs image k false b end))
+
+-- A held run that stops before its last access stops so without this access too.
+abbrev pub ShorterRunsStopToo : Type 0
+ShorterRunsStopToo =
+    (image : Image) (k : ℕ) (start : List ℕ) (front : List Access) (x : Access) (end : Run)
+    → StopsBefore image k (front ++ x ∷ []) (powered start) end
+    → EndsAs image k true (dialogue start front) end
+
+-- Leaving status reads out of a dialogue changes neither an overrun nor a breach of its held run.
+abbrev pub StatusReadsStopNothing : Type 0
+StatusReadsStopNothing =
+    (image : Image) (k : ℕ) (start : List ℕ) (accesses : List Access) (end : Run)
+    → IsStop end
+    → EndsAs image k true (dialogue start accesses) end
+      ↔ EndsAs image k true (dialogue start (transfers_of accesses)) end
+
+-- Leaving status reads out of a dialogue changes no request.
+abbrev pub StatusReadsMoveNoRequest : Type 0
+StatusReadsMoveNoRequest =
+    (image : Image) (k : ℕ) (accesses : List Access) (c d : Chip)
+    → AsksAfter image k accesses c d → AsksAfter image k (transfers_of accesses) c d
+
+-- a chip that has just raised a request
+pub record IsFresh (c : Chip) : Type 0 where
+  pub count : c.monitor.count ≡ 0
+  pub asked : c.monitor.asked ≡ true
+
+-- A first request is asked, and its count is 0.
+abbrev pub FirstRequestsAreFresh : Type 0
+FirstRequestsAreFresh =
+    (image : Image) (k : ℕ) (start : List ℕ) (accesses : List Access) (d : Chip)
+    → AsksAfter image k accesses (powered start) d → IsFresh d
+
+-- Where a held chip strides on after some accesses, a request with count 0 is the first one after them.
+abbrev pub FreshRequestsAreFirst : Type 0
+FreshRequestsAreFirst =
+    (image : Image) (k : ℕ) (start : List ℕ) (accesses : List Access) (b d : Chip) (j : ℕ)
+    → Given image k accesses (powered start) b → strides image k true j b ≡ d
+    → rqm d.machine ≡ true → d.monitor.count ≡ 0
+    → AsksAfter image k accesses (powered start) d
+
+-- a held chip to which these accesses were given passes the point
+pub record PassesAfter (image : Image) (s : Side) (k : ℕ) (front : List Access) (c : Chip) (p : Point) : Type 0 where
+  pub after : Chip
+  pub given : Given image k front c after
+  pub steps : ℕ
+  pub point : point_of s (record { chip = strides image k true steps after; given = front; left = []; said = [] }) ≡ p
+
+-- the point is passed after the first of the accesses, as many as it has
+pub record PassesWithin (image : Image) (s : Side) (k : ℕ) (accesses : List Access) (c : Chip) (p : Point) : Type 0 where
+  pub front : List Access
+  pub rest : List Access
+  pub parts : accesses ≡ front ++ rest
+  pub passes : PassesAfter image s k front c p
+
+-- Each point that a held run passes is passed by the held chip after some first accesses of its dialogue.
+abbrev pub PointsArePassedAfterAccesses : Type 0
+PointsArePassedAfterAccesses =
+    (image : Image) (s : Side) (k : ℕ) (d : Talk) (p : Point)
+    → Passes image s k d p → PassesWithin image s k d.accesses (powered d.start) p
+
+-- A held run without status reads passes a point with all of its kinds exactly where the held chip does after
+-- the last access.
+abbrev pub LastPointsArePassedAfterAll : Type 0
+LastPointsArePassedAfterAll =
+    (image : Image) (s : Side) (k : ℕ) (d : Talk) (p : Point)
+    → All IsTransfer d.accesses → p.kinds ≡ kinds d.accesses
+    → Passes image s k d p ↔ PassesAfter image s k d.accesses (powered d.start) p
+
+-- Points that are different from one another and stand in a list are no more than this list has.
+abbrev pub DifferentPointsAreNoMore : Type 0
+DifferentPointsAreNoMore =
+    (xs ys : List Point)
+    → AllPairs (λ x y. x ≢ y) xs → All (Contains ys) xs → length xs ≤ length ys
