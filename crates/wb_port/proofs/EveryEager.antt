@@ -84,7 +84,7 @@ module _ (image : Image) (k : ℕ) where
     pub sum : r ≡ s ++ more
     pub holds : Holds c l more
 
-  not_stopped : (at : Chip) (r : List ℕ) → stop_of image k at ≡ Some (Answered r) → ⊥
+  pub not_stopped : (at : Chip) (r : List ℕ) → stop_of image k at ≡ Some (Answered r) → ⊥
   unfolding stop_of
   not_stopped at r e = by_count (at.monitor.count == k) (is_breach image at) refl refl
     where
