@@ -73,10 +73,10 @@ module _ (image : Image) (k : ℕ) where
   stops_here held c end r s = record { at = c; steps = zero; comes = refl; works = r; stop = s }
 
   -- whether the run waits for a request, or is held, or is over
-  works_turn : (held : Bool) (a : Access) (l g : List Access) (c : Chip) (s : List ℕ) → rqm c.machine ≡ false → turn image k held (moment c (a ∷ l) g s) ≡ gone (stop_of image k c) (moment c (a ∷ l) g s)
+  pub works_turn : (held : Bool) (a : Access) (l g : List Access) (c : Chip) (s : List ℕ) → rqm c.machine ≡ false → turn image k held (moment c (a ∷ l) g s) ≡ gone (stop_of image k c) (moment c (a ∷ l) g s)
   works_turn held a l g c s r = works image k held c a l g s r ∙ go_is (moment c (a ∷ l) g s)
 
-  held_turn : (g : List Access) (c : Chip) (s : List ℕ) → is_waiting image c ≡ false → turn image k true (moment c [] g s) ≡ gone (stop_of image k c) (moment c [] g s)
+  pub held_turn : (g : List Access) (c : Chip) (s : List ℕ) → is_waiting image c ≡ false → turn image k true (moment c [] g s) ≡ gone (stop_of image k c) (moment c [] g s)
   held_turn g c s r = works_on image k c g s r ∙ go_is (moment c [] g s)
 
   -- from an end to the course
@@ -108,7 +108,7 @@ module _ (image : Image) (k : ℕ) where
       let e : x ≡ end = cc in
       inr (stops_here true c end r (o ∙ ap (λ (y : Run). Some y) e))
 
-  held_steps : (c : Chip) (g : List Access) (s : List ℕ) → is_waiting image c ≡ false → stop_of image k c ≡ None → turn image k true (moment c [] g s) ≡ Steps (moment (stepped image c) [] g s)
+  pub held_steps : (c : Chip) (g : List Access) (s : List ℕ) → is_waiting image c ≡ false → stop_of image k c ≡ None → turn image k true (moment c [] g s) ≡ Steps (moment (stepped image c) [] g s)
   held_steps c g s r o = held_turn g c s r ∙ ap (λ (p : Option Run). gone p (moment c [] g s)) o
 
   pub held_before : (c : Chip) (s : List ℕ) (end : Run) → is_waiting image c ≡ false → stop_of image k c ≡ None → Ran image k true [] (stepped image c) s end → Ran image k true [] c s end
@@ -147,7 +147,7 @@ module _ (image : Image) (k : ℕ) where
       let e : x ≡ end = cc in
       inr (stops_here false c end r (o ∙ ap (λ (y : Run). Some y) e))
 
-  works_steps : (held : Bool) (a : Access) (l : List Access) (c : Chip) (g : List Access) (s : List ℕ) → rqm c.machine ≡ false → stop_of image k c ≡ None → turn image k held (moment c (a ∷ l) g s) ≡ Steps (moment (stepped image c) (a ∷ l) g s)
+  pub works_steps : (held : Bool) (a : Access) (l : List Access) (c : Chip) (g : List Access) (s : List ℕ) → rqm c.machine ≡ false → stop_of image k c ≡ None → turn image k held (moment c (a ∷ l) g s) ≡ Steps (moment (stepped image c) (a ∷ l) g s)
   works_steps held a l c g s r o = works_turn held a l g c s r ∙ ap (λ (p : Option Run). gone p (moment c (a ∷ l) g s)) o
 
   split_before : (held : Bool) (a : Access) (l : List Access) (c : Chip) (g : List Access) (s : List ℕ) (end : Run) → rqm c.machine ≡ false → stop_of image k c ≡ None → Split held a l (stepped image c) g s end → Split held a l c g s end

@@ -76,7 +76,7 @@ last_reply_given image k start front x replies =
            (last_reply image k front x (powered start) h.asking [] h.earlier (ran_if_ends image k false front (powered start) [] [] (Answered h.earlier) h.answered) h.asks)))
 
 -- what fits still fits without the status reads, and up to any access
-kinds_append : (xs ys : List Access) → kinds (xs ++ ys) ≡ kinds xs ++ kinds ys
+pub kinds_append : (xs ys : List Access) → kinds (xs ++ ys) ≡ kinds xs ++ kinds ys
 kinds_append [] ys = refl
 kinds_append (access.Status ∷ xs) ys = kinds_append xs ys
 kinds_append (access.Read ∷ xs) ys = let e = kinds_append xs ys in cc

@@ -8,6 +8,7 @@ pub mod EveryEager
 pub mod EveryFacts
 pub mod EveryLaw
 pub mod EveryPigeon
+pub mod EveryPoints
 pub mod EveryReplies
 pub mod EveryRequests
 pub mod EveryRuns
