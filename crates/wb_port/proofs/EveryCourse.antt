@@ -189,7 +189,7 @@ module _ (image : Image) (k : ℕ) where
       by_wait false (Some x) r p q = subst (λ (y : Chip). EndsFrom image k true (moment y [] g s) end) (stride_stops true c x p) q
       by_wait false None r p q =
           later image k true (moment c [] g s) (Steps (moment (stepped image c) [] g s)) end (held_steps c g s r p)
-            (subst (λ (y : Chip). EndsFrom image k true (moment y [] g s) end) (stride_steps true c r p) q)
+          (subst (λ (y : Chip). EndsFrom image k true (moment y [] g s) end) (stride_steps true c r p) q)
 
   lift_works : (held : Bool) (j : ℕ) (a : Access) (l : List Access) (c d : Chip) (g : List Access) (s : List ℕ) (end : Run) → strides image k false j c ≡ d → EndsFrom image k held (moment d (a ∷ l) g s) end → EndsFrom image k held (moment c (a ∷ l) g s) end
   lift_works held zero a l c d g s end e h = subst (λ (x : Chip). EndsFrom image k held (moment x (a ∷ l) g s) end) (sym e) h
@@ -200,30 +200,30 @@ module _ (image : Image) (k : ℕ) where
       by_request false (Some x) r p q = subst (λ (y : Chip). EndsFrom image k held (moment y (a ∷ l) g s) end) (stride_stops false c x p) q
       by_request false None r p q =
           later image k held (moment c (a ∷ l) g s) (Steps (moment (stepped image c) (a ∷ l) g s)) end (works_steps held a l c g s r p)
-            (subst (λ (y : Chip). EndsFrom image k held (moment y (a ∷ l) g s) end) (stride_steps false c r p) q)
+          (subst (λ (y : Chip). EndsFrom image k held (moment y (a ∷ l) g s) end) (stride_steps false c r p) q)
 
   stops_held : (c : Chip) (g : List Access) (s : List ℕ) (end : Run) → StopsAs image k true c end → EndsFrom image k true (moment c [] g s) end
   stops_held c g s end t =
       lift_held t.steps c t.at g s end t.comes
-        (now image k true (moment t.at [] g s) end (held_turn g t.at s t.works ∙ ap (λ (p : Option Run). gone p (moment t.at [] g s)) t.stop))
+      (now image k true (moment t.at [] g s) end (held_turn g t.at s t.works ∙ ap (λ (p : Option Run). gone p (moment t.at [] g s)) t.stop))
 
   stops_works : (held : Bool) (a : Access) (l : List Access) (c : Chip) (g : List Access) (s : List ℕ) (end : Run) → StopsAs image k false c end → EndsFrom image k held (moment c (a ∷ l) g s) end
   stops_works held a l c g s end t =
       lift_works held t.steps a l c t.at g s end t.comes
-        (now image k held (moment t.at (a ∷ l) g s) end (works_turn held a l g t.at s t.works ∙ ap (λ (p : Option Run). gone p (moment t.at (a ∷ l) g s)) t.stop))
+      (now image k held (moment t.at (a ∷ l) g s) end (works_turn held a l g t.at s t.works ∙ ap (λ (p : Option Run). gone p (moment t.at (a ∷ l) g s)) t.stop))
 
   pub ends_if_ran : (held : Bool) (l : List Access) (c : Chip) (g : List Access) (s : List ℕ) (end : Run) → Ran image k held l c s end → EndsFrom image k held (moment c l g s) end
   ends_if_ran false [] c g s end h = subst (EndsFrom image k false (moment c [] g s)) (sym h) (now image k false (moment c [] g s) (Answered s) (answers image k c g s))
   ends_if_ran true [] c g s end (inl t) =
       let r = t.1 in
       subst (EndsFrom image k true (moment c [] g s)) (sym t.2)
-        (lift_held r.steps c t.0 g s (Answered s) r.comes (now image k true (moment t.0 [] g s) (Answered s) (waits image k t.0 g s r.rest)))
+      (lift_held r.steps c t.0 g s (Answered s) r.comes (now image k true (moment t.0 [] g s) (Answered s) (waits image k t.0 g s r.rest)))
   ends_if_ran true [] c g s end (inr t) = stops_held c g s end t
   ends_if_ran held (a ∷ l) c g s end (inl t) =
       let r = t.1 in
       lift_works held r.steps a l c t.0 g s end r.comes
-        (later image k held (moment t.0 (a ∷ l) g s) (Gives a (passed a l t.0 g s)) end (gives image k held t.0 a l g s r.rest)
-          (ends_if_ran held l (applied image (event.Host a) t.0) (g ++ a ∷ []) (s ++ option_to_list (access_reply a t.0.machine)) end t.2))
+      (later image k held (moment t.0 (a ∷ l) g s) (Gives a (passed a l t.0 g s)) end (gives image k held t.0 a l g s r.rest)
+      (ends_if_ran held l (applied image (event.Host a) t.0) (g ++ a ∷ []) (s ++ option_to_list (access_reply a t.0.machine)) end t.2))
   ends_if_ran held (a ∷ l) c g s end (inr t) = stops_works held a l c g s end t
 
   -- a run has one end at most

@@ -133,4 +133,4 @@ bridge a b n k shape power never_a never_b replies start s t obedient_a obedient
     let x = every_schedule a n k shape power never_a start s obedient_a fits in
     let y = every_schedule b n k shape power never_b start t obedient_b (subst (Fits n shape power) same fits) in
     replies (talk a start s) (said a start s) (said b start t) fits x.answered
-      (subst (λ (d : Talk). EndsAs b k false d (Answered (said b start t))) (sym same) y.answered)
+    (subst (λ (d : Talk). EndsAs b k false d (Answered (said b start t))) (sym same) y.answered)

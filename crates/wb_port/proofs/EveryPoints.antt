@@ -41,8 +41,10 @@ module _ (image : Image) (side : Side) (k : ℕ) where
     where
       m : Moment
       m = moment c [] g s
+
       ended : (x : Run) → turn image k true m ≡ Ends x → (n : ℕ) × (spot g (strides image k true n c) ≡ p)
       ended x t = (zero, ap (point_of side) (sym (stays image k true m x t (suc j))) ∙ e)
+
       by_wait : (r : Bool) (o : Option Run) → is_waiting image c ≡ r → stop_of image k c ≡ o
           → (point_of side (turns image k true j (moment (stepped image c) [] g s)) ≡ p → (n : ℕ) × (spot g (strides image k true n (stepped image c)) ≡ p))
           → (n : ℕ) × (spot g (strides image k true n c) ≡ p)
@@ -78,6 +80,7 @@ module _ (image : Image) (side : Side) (k : ℕ) where
     where
       waits_not : is_waiting image c ≡ false
       waits_not = and_left (rqm c.machine) (is_poll image (place c)) r
+
       go_by : (front : List Access) → l ≡ front ++ w.rest → Given image k front (stepped image c) w.after → spot (g ++ front) (strides image k true w.steps w.after) ≡ p → Within l g c p
       go_by [] e given point = record {
         front = [];
@@ -114,11 +117,12 @@ module _ (image : Image) (side : Side) (k : ℕ) where
   points_within zero (a ∷ l) g c s p e = within_here (a ∷ l) g c p zero e
   points_within (suc j) (a ∷ l) g c s p e =
       by_request (rqm c.machine) (stop_of image k c) refl refl
-        (points_within j l (g ++ a ∷ []) (applied image (event.Host a) c) (s ++ option_to_list (access_reply a c.machine)) p)
-        (points_within j (a ∷ l) g (stepped image c) s p)
+      (points_within j l (g ++ a ∷ []) (applied image (event.Host a) c) (s ++ option_to_list (access_reply a c.machine)) p)
+      (points_within j (a ∷ l) g (stepped image c) s p)
     where
       m : Moment
       m = moment c (a ∷ l) g s
+
       by_request : (r : Bool) (o : Option Run) → rqm c.machine ≡ r → stop_of image k c ≡ o
           → (point_of side (turns image k true j (passed image k a l c g s)) ≡ p → Within l (g ++ a ∷ []) (applied image (event.Host a) c) p)
           → (point_of side (turns image k true j (moment (stepped image c) (a ∷ l) g s)) ≡ p → Within (a ∷ l) g (stepped image c) p)
@@ -147,7 +151,7 @@ module _ (image : Image) (side : Side) (k : ℕ) where
       by_wait false (Some x) r q rest = (zero, ap (spot g) (sym (strides_stop image k true (suc n) c x q)) ∙ e)
       by_wait false None r q rest =
           meets_later (moment c [] g s) (Steps (moment (stepped image c) [] g s)) p (held_steps image k c g s r q)
-            (rest (ap (λ (y : Chip). spot g (strides image k true n y)) (sym (stride_steps image k true c r q)) ∙ e))
+          (rest (ap (λ (y : Chip). spot g (strides image k true n y)) (sym (stride_steps image k true c r q)) ∙ e))
 
   meets_works : (j : ℕ) (a : Access) (l g : List Access) (c d : Chip) (s : List ℕ) (p : Point) → strides image k false j c ≡ d → Meets (moment d (a ∷ l) g s) p → Meets (moment c (a ∷ l) g s) p
   meets_works zero a l g c d s p e h = subst (λ (x : Chip). Meets (moment x (a ∷ l) g s) p) (sym e) h
@@ -158,7 +162,7 @@ module _ (image : Image) (side : Side) (k : ℕ) where
       by_request false (Some y) r q h = subst (λ (x : Chip). Meets (moment x (a ∷ l) g s) p) (stride_stops image k false c y q) h
       by_request false None r q h =
           meets_later (moment c (a ∷ l) g s) (Steps (moment (stepped image c) (a ∷ l) g s)) p (works_steps image k true a l c g s r q)
-            (subst (λ (x : Chip). Meets (moment x (a ∷ l) g s) p) (stride_steps image k false c r q) h)
+          (subst (λ (x : Chip). Meets (moment x (a ∷ l) g s) p) (stride_steps image k false c r q) h)
 
   meets_all : (l g : List Access) (c d : Chip) (s : List ℕ) (p : Point) (n : ℕ) → Given image k l c d → spot (g ++ l) (strides image k true n d) ≡ p → Meets (moment c l g s) p
   meets_all [] g c d s p n h e =
@@ -167,9 +171,9 @@ module _ (image : Image) (side : Side) (k : ℕ) where
       let r = h.1 in
       let b = h.0 in
       meets_works r.steps a l g c b s p r.comes
-        (meets_later (moment b (a ∷ l) g s) (Gives a (passed image k a l b g s)) p (gives image k true b a l g s r.rest)
-          (meets_all l (g ++ a ∷ []) (applied image (event.Host a) b) d (s ++ option_to_list (access_reply a b.machine)) p n h.2
-            (ap (λ (y : List Access). spot y (strides image k true n d)) (append_assoc g (a ∷ []) l) ∙ e)))
+      (meets_later (moment b (a ∷ l) g s) (Gives a (passed image k a l b g s)) p (gives image k true b a l g s r.rest)
+      (meets_all l (g ++ a ∷ []) (applied image (event.Host a) b) d (s ++ option_to_list (access_reply a b.machine)) p n h.2
+      (ap (λ (y : List Access). spot y (strides image k true n d)) (append_assoc g (a ∷ []) l) ∙ e)))
 
 -- a first part of some transfers that has all of their kinds is the whole
 transfers_more : (l : List Access) (xs : List Kind) → AllByRecursion IsTransfer l → length xs ≡ length xs + length (kinds l) → l ≡ []
@@ -198,7 +202,7 @@ last_points image s k d p only same = (forth, λ h. meets_all image s k d.access
         let k_front : kinds w.front ≡ p.kinds = ap (λ (q : Point). q.kinds) v.point in
         let all : AllByRecursion IsTransfer (w.front ++ w.rest) = subst (AllByRecursion IsTransfer) e (recursion_from_All IsTransfer d.accesses only) in
         let sizes : length (kinds w.front) ≡ length (kinds w.front) + length (kinds w.rest) =
-            ap length (k_front ∙ (same ∙ (ap kinds e ∙ kinds_append w.front w.rest))) ∙ length-append (kinds w.front) (kinds w.rest) in
+        ap length (k_front ∙ (same ∙ (ap kinds e ∙ kinds_append w.front w.rest))) ∙ length-append (kinds w.front) (kinds w.rest) in
         let none : w.rest ≡ [] = transfers_more w.rest (kinds w.front) (rest_transfers w.front w.rest all) sizes in
         let whole : w.front ≡ d.accesses = sym (e ∙ (ap (λ (x : List Access). w.front ++ x) none ∙ append-nil w.front)) in
         subst (λ (x : List Access). PassesAfter image s k x (powered d.start) p) whole v

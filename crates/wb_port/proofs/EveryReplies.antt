@@ -66,14 +66,15 @@ pub requests_stay : StatusReadsMoveNoRequest
 requests_stay image k l c d h = strip_asks image k l c d h
 
 pub last_reply_given : LastReplyIsGivenAtARequest
-last_reply_given image k start front x replies =
-    (λ h.
-       let t = reply_last image k front x (powered start) [] replies (ran_if_ends image k false (front ++ x ∷ []) (powered start) [] [] (Answered replies) h) in
-       record { earlier = t.0; answered = ends_if_ran image k false front (powered start) [] [] (Answered t.0) t.2; asking = t.1; asks = t.3; sum = t.4 },
-     λ h.
-       ends_if_ran image k false (front ++ x ∷ []) (powered start) [] [] (Answered replies)
-         (subst (λ (r : List ℕ). Ran image k false (front ++ x ∷ []) (powered start) [] (Answered r)) (sym h.sum)
-           (last_reply image k front x (powered start) h.asking [] h.earlier (ran_if_ends image k false front (powered start) [] [] (Answered h.earlier) h.answered) h.asks)))
+last_reply_given image k start front x replies = (
+  λ h.
+      let t = reply_last image k front x (powered start) [] replies (ran_if_ends image k false (front ++ x ∷ []) (powered start) [] [] (Answered replies) h) in
+      record { earlier = t.0; answered = ends_if_ran image k false front (powered start) [] [] (Answered t.0) t.2; asking = t.1; asks = t.3; sum = t.4 },
+  λ h.
+      ends_if_ran image k false (front ++ x ∷ []) (powered start) [] [] (Answered replies)
+      (subst (λ (r : List ℕ). Ran image k false (front ++ x ∷ []) (powered start) [] (Answered r)) (sym h.sum)
+      (last_reply image k front x (powered start) h.asking [] h.earlier (ran_if_ends image k false front (powered start) [] [] (Answered h.earlier) h.answered) h.asks)),
+)
 
 -- what fits still fits without the status reads, and up to any access
 pub kinds_append : (xs ys : List Access) → kinds (xs ++ ys) ≡ kinds xs ++ kinds ys
@@ -113,14 +114,14 @@ kinds_front p l z =
     let short = kinds_append (transfers_of p) (z ∷ []) in
     let same = kinds_stripped p in
     whole ∙ (ap (λ (t : List Kind). kinds p ++ t) one ∙ (sym (append_assoc (kinds p) (kinds (z ∷ [])) (kinds l))
-      ∙ ap (λ (t : List Kind). t ++ kinds l) (ap (λ (t : List Kind). t ++ kinds (z ∷ [])) (sym same) ∙ sym short)))
+    ∙ ap (λ (t : List Kind). t ++ kinds l) (ap (λ (t : List Kind). t ++ kinds (z ∷ [])) (sym same) ∙ sym short)))
 
 pub fits_front : (n : ℕ) (shape : List Letter) (power : Power) (start : List ℕ) (p l : List Access) (z : Access)
     → Fits n shape power (dialogue start (p ++ z ∷ l)) → Fits n shape power (dialogue start (transfers_of p ++ z ∷ []))
 fits_front n shape power start p l z f =
     let e = kinds_front p l z in
     let a : length (kinds (p ++ z ∷ l)) ≡ length (kinds (transfers_of p ++ z ∷ [])) + length (kinds l) =
-        ap length e ∙ length-append (kinds (transfers_of p ++ z ∷ [])) (kinds l) in
+    ap length e ∙ length-append (kinds (transfers_of p ++ z ∷ [])) (kinds l) in
     let s = f.short in
     record {
       short = omega arith;
@@ -143,16 +144,16 @@ module _ (a b : Image) (n k : ℕ) (shape : List Letter) (power : Power) (alike 
       let asks_a : AsksAfter a k p (powered start) r.0 = record { after = c; given = g; request = r.1 } in
       let asks_b : AsksAfter b k p (powered start) t.0 = record { after = d; given = h; request = t.1 } in
       let same : access_reply z r.0.machine ≡ access_reply z t.0.machine =
-          alike start (transfers_of p) z r.0 t.0 (All-from_recursion IsTransfer (transfers_of p) (all_transfers p)) (fits_front n shape power start p l z f)
-            (strip_asks a k p (powered start) r.0 asks_a) (strip_asks b k p (powered start) t.0 asks_b) in
+      alike start (transfers_of p) z r.0 t.0 (All-from_recursion IsTransfer (transfers_of p) (all_transfers p)) (fits_front n shape power start p l z f)
+      (strip_asks a k p (powered start) r.0 asks_a) (strip_asks b k p (powered start) t.0 asks_b) in
       replies_from l (p ++ z ∷ []) (applied a (event.Host z) r.0) (applied b (event.Host z) t.0) (s ++ option_to_list (access_reply z r.0.machine)) x y
-        (given_longer a k p z (powered start) r.0 asks_a) (given_longer b k p z (powered start) t.0 asks_b)
-        (subst (λ (q : List Access). Fits n shape power (dialogue start q)) (sym (append_assoc p (z ∷ []) l)) f)
-        r.2
-        (subst (λ (q : Option ℕ). Ran b k false l (applied b (event.Host z) t.0) (s ++ option_to_list q) (Answered y)) (sym same) t.2)
+      (given_longer a k p z (powered start) r.0 asks_a) (given_longer b k p z (powered start) t.0 asks_b)
+      (subst (λ (q : List Access). Fits n shape power (dialogue start q)) (sym (append_assoc p (z ∷ []) l)) f)
+      r.2
+      (subst (λ (q : Option ℕ). Ran b k false l (applied b (event.Host z) t.0) (s ++ option_to_list q) (Answered y)) (sym same) t.2)
 
 pub requests_decide : RequestsDecide
 requests_decide a b n k shape power alike d x y f r t =
     replies_from a b n k shape power alike d.start d.accesses [] (powered d.start) (powered d.start) [] x y refl refl f
-      (ran_if_ends a k false d.accesses (powered d.start) [] [] (Answered x) r)
-      (ran_if_ends b k false d.accesses (powered d.start) [] [] (Answered y) t)
+    (ran_if_ends a k false d.accesses (powered d.start) [] [] (Answered x) r)
+    (ran_if_ends b k false d.accesses (powered d.start) [] [] (Answered y) t)

@@ -105,12 +105,14 @@ module _ (image : Image) (k : ℕ) where
     where
       same : b ≡ d → RestsAt image k false b d
       same s = subst (RestsAt image k false b) s (rests_here image k false b (ap (λ (x : Chip). rqm x.machine) s ∙ stands))
+
       by_wait : (w : Bool) → is_waiting image b ≡ w → stop_of image k b ≡ None → rqm b.machine ≡ true → RestsAt image k false b d
       by_wait true w o r = same (sym (strides_rest image k true (suc j) b w) ∙ e)
       by_wait false w o r =
           let f = new r in
           let counted : 0 < d.monitor.count = later_on j (stepped image b) d (ap (strides image k true j) (sym (stride_steps image k true b w o)) ∙ e) (later_step b r f.asked w o) in
           absurd (omega arith)
+
       by_request : (r : Bool) (o : Option Run) → rqm b.machine ≡ r → stop_of image k b ≡ o
           → (strides image k true j (stepped image b) ≡ d → IsNew (stepped image b) → rqm d.machine ≡ true → d.monitor.count ≡ 0 → RestsAt image k false (stepped image b) d)
           → RestsAt image k false b d

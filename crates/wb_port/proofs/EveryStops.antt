@@ -43,7 +43,7 @@ module _ (image : Image) (k : ℕ) where
   pub stops_held : (c : Chip) (end : Run) → StopsAs image k false c end → StopsAs image k true c end
   stops_held c end t =
       back (λ (x : Chip). StopsAs image k true x end) (λ x r q. stops_before image k true x end r q) t.steps c t.at t.comes
-        (stops_here image k true t.at end (and_left (rqm t.at.machine) (is_poll image (place t.at)) t.works) t.stop)
+      (stops_here image k true t.at end (and_left (rqm t.at.machine) (is_poll image (place t.at)) t.works) t.stop)
 
   -- a held chip stops before its next request or after it
   pub stops_where : (j : ℕ) (c x : Chip) (end : Run) → strides image k true j c ≡ x → is_waiting image x ≡ false → stop_of image k x ≡ Some end
@@ -52,6 +52,7 @@ module _ (image : Image) (k : ℕ) where
     where
       here : StopsAs image k true c end
       here = record { at = x; steps = zero; comes = e; works = w; stop = s }
+
       by_request : (r : Bool) → rqm c.machine ≡ r → ((d : Chip) × RestsAt image k false c d × StopsAs image k true d end) ⊎ StopsAs image k false c end
       by_request true r = inl (c, rests_here image k false c r, here)
       by_request false r = inr (stops_here image k false c end r (ap (stop_of image k) e ∙ s))
@@ -59,11 +60,14 @@ module _ (image : Image) (k : ℕ) where
     where
       Where : Chip → Type 0
       Where y = ((d : Chip) × RestsAt image k false y d × StopsAs image k true d end) ⊎ StopsAs image k false y end
+
       there : StopsAs image k true c end
       there = record { at = x; steps = suc j; comes = e; works = w; stop = s }
+
       lifts : rqm c.machine ≡ false → stop_of image k c ≡ None → Where (stepped image c) → Where c
       lifts r q (inl t) = inl (t.0, rests_before image k false c t.0 r q t.1, t.2)
       lifts r q (inr t) = inr (stops_before image k false c end r q t)
+
       by_request : (r : Bool) (o : Option Run) → rqm c.machine ≡ r → stop_of image k c ≡ o → Where (stride image k true c) → Where c
       by_request true o r q h = inl (c, rests_here image k false c r, there)
       by_request false (Some y) r q h =
@@ -86,6 +90,7 @@ module _ (image : Image) (k : ℕ) where
     where
       clash : d ≡ t.at → ⊥
       clash e = both_ways (rests image held t.at) t.works (ap (rests image held) (sym e) ∙ r.rest)
+
       meet : (i j : ℕ) (c : Chip) → strides image k held i c ≡ d → strides image k held j c ≡ t.at → ⊥
       meet zero j c p q = clash (sym p ∙ (sym (strides_rest image k held j c (ap (rests image held) p ∙ r.rest)) ∙ q))
       meet (suc i) zero c p q = clash (sym p ∙ (strides_stop image k held (suc i) c end (ap (stop_of image k) q ∙ t.stop) ∙ q))
@@ -95,7 +100,7 @@ module _ (image : Image) (k : ℕ) where
   given_one [] c d x g h = sym g ∙ h
   given_one (a ∷ l) c d x g h =
       given_one l (applied image (event.Host a) g.0) d x g.2
-        (subst (λ (b : Chip). Given image k l (applied image (event.Host a) b) x) (sym (rests_one false c g.0 h.0 g.1 h.1)) h.2)
+      (subst (λ (b : Chip). Given image k l (applied image (event.Host a) b) x) (sym (rests_one false c g.0 h.0 g.1 h.1)) h.2)
 
   pub asks_one : (l : List Access) (c d x : Chip) → AsksAfter image k l c d → AsksAfter image k l c x → d ≡ x
   asks_one l c d x g h =

@@ -5,6 +5,7 @@ pub mod CalmRequests
 pub mod Circles
 pub mod EveryCourse
 pub mod EveryEager
+pub mod EveryEnds
 pub mod EveryFacts
 pub mod EveryLaw
 pub mod EveryPigeon

@@ -66,9 +66,9 @@ Ran image k true [] c said end =
     ((d : Chip) × RestsAt image k true c d × (end ≡ Answered said)) ⊎ StopsAs image k true c end
 Ran image k held (a ∷ rest) c said end =
     ((d : Chip)
-     × RestsAt image k false c d
-     × Ran image k held rest (applied image (event.Host a) d)
-       (said ++ option_to_list (access_reply a d.machine)) end)
+    × RestsAt image k false c d
+    × Ran image k held rest (applied image (event.Host a) d)
+    (said ++ option_to_list (access_reply a d.machine)) end)
     ⊎ StopsAs image k false c end
 
 -- from the first chip, the second is the one right after the last of these accesses, each given at a request
@@ -89,8 +89,8 @@ StopsBefore image k [] c end = ⊥
 StopsBefore image k (a ∷ rest) c end =
     StopsAs image k false c end
     ⊎ ((b : Chip)
-       × RestsAt image k false c b
-       × StopsBefore image k rest (applied image (event.Host a) b) end)
+    × RestsAt image k false c b
+    × StopsBefore image k rest (applied image (event.Host a) b) end)
 
 -- the held run stops so after the last of these accesses
 pub record StopsAfter (image : Image) (k : ℕ) (accesses : List Access) (c : Chip) (end : Run) : Type 0 where

@@ -113,7 +113,7 @@ abbrev pub LastAccessIsGivenAtARequest : Type 0
 LastAccessIsGivenAtARequest =
     (image : Image) (k : ℕ) (front : List Access) (x : Access) (c d : Chip)
     → Given image k (front ++ x ∷ []) c d
-      ↔ ((b : Chip) × AsksAfter image k front c b × (applied image (event.Host x) b ≡ d))
+    ↔ ((b : Chip) × AsksAfter image k front c b × (applied image (event.Host x) b ≡ d))
 
 -- what the replies of some accesses and one more are: those of the first, and the last one's, at its request
 pub record EndsByReply (image : Image) (k : ℕ) (start : List ℕ) (front : List Access) (x : Access) (replies : List ℕ) : Type 0 where
@@ -128,7 +128,7 @@ abbrev pub LastReplyIsGivenAtARequest : Type 0
 LastReplyIsGivenAtARequest =
     (image : Image) (k : ℕ) (start : List ℕ) (front : List Access) (x : Access) (replies : List ℕ)
     → EndsAs image k false (dialogue start (front ++ x ∷ [])) (Answered replies)
-      ↔ EndsByReply image k start front x replies
+    ↔ EndsByReply image k start front x replies
 
 -- A held run overruns or breaches before its last access, or after it.
 abbrev pub HeldRunsStopBeforeOrAfter : Type 0
@@ -136,15 +136,15 @@ HeldRunsStopBeforeOrAfter =
     (image : Image) (k : ℕ) (start : List ℕ) (accesses : List Access) (end : Run)
     → IsStop end
     → EndsAs image k true (dialogue start accesses) end
-      ↔ (StopsBefore image k accesses (powered start) end ⊎ StopsAfter image k accesses (powered start) end)
+    ↔ (StopsBefore image k accesses (powered start) end ⊎ StopsAfter image k accesses (powered start) end)
 
 -- With one access more, a run stops before its last access where it stopped before or on the way to a request.
 abbrev pub LongerRunsStopBefore : Type 0
 LongerRunsStopBefore =
     (image : Image) (k : ℕ) (front : List Access) (x : Access) (c : Chip) (end : Run)
     → StopsBefore image k (front ++ x ∷ []) c end
-      ↔ (StopsBefore image k front c end
-         ⊎ ((b : Chip) × Given image k front c b × StopsAs image k false b end))
+    ↔ (StopsBefore image k front c end
+    ⊎ ((b : Chip) × Given image k front c b × StopsAs image k false b end))
 
 -- A held run that stops before its last access stops so without this access too.
 abbrev pub ShorterRunsStopToo : Type 0
@@ -159,7 +159,7 @@ StatusReadsStopNothing =
     (image : Image) (k : ℕ) (start : List ℕ) (accesses : List Access) (end : Run)
     → IsStop end
     → EndsAs image k true (dialogue start accesses) end
-      ↔ EndsAs image k true (dialogue start (transfers_of accesses)) end
+    ↔ EndsAs image k true (dialogue start (transfers_of accesses)) end
 
 -- Leaving status reads out of a dialogue changes no request.
 abbrev pub StatusReadsMoveNoRequest : Type 0

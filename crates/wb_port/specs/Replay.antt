@@ -14,11 +14,12 @@ use Rattle.wb_port.specs.Run.{Moment, Turn, Gives, Steps, Ends}
 -- the moment of a run of the dialogue that has come so far
 abbrev pub moment_of : Talk → Progress → Moment
 moment_of d p =
-    record
-        { chip = p.chip
-        ; given = take p.given d.accesses
-        ; left = drop p.given d.accesses
-        ; said = p.said }
+    record {
+      chip = p.chip;
+      given = take p.given d.accesses;
+      left = drop p.given d.accesses;
+      said = p.said;
+    }
 
 -- the end of a run with the bytes that were said
 abbrev pub run_of : End → List ℕ → Run
