@@ -1,4 +1,6 @@
 pub mod Circles
+pub mod Ends
+pub mod Measure
 pub mod Single
 pub mod Starts
 pub mod Steady
