@@ -3,6 +3,7 @@ pub mod CalmNext
 pub mod CalmReads
 pub mod CalmRequests
 pub mod Circles
+pub mod Ends
 pub mod EveryCourse
 pub mod EveryEager
 pub mod EveryEnds
@@ -17,6 +18,8 @@ pub mod EveryStops
 pub mod EveryWalks
 pub mod LoopsGate
 pub mod LoopsTurn
+pub mod Measure
+pub mod Playing
 pub mod Single
 pub mod Starts
 pub mod Steady

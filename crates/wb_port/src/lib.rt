@@ -39,6 +39,7 @@ pub use lists::{Kinds, Replies};
 pub use loops::{follow, is_poll, is_test, raises, touches};
 pub use points::Point;
 pub use port::{halfway, read, requested, status, write};
+pub use replays::replay;
 pub use runs::Run;
 pub use shapes::Shape;
 pub use talks::Dialogue;

@@ -1,3 +1,6 @@
+ghost use Rattle.std.specs.Prelude.{◌≤◌, IfOk};
+ghost use Rattle.wb_port.specs.Run.{EndsAs};
+
 use crate::accesses::Access;
 use crate::chips::Chip;
 use crate::lists::Replies;
@@ -140,6 +143,28 @@ impl Progress {
             End::Answered => Run::Answered(said),
             End::Overrun => Run::Overrun,
             End::Breach(at) => Run::Breach(at),
+        }
+    }
+}
+
+/// The run of a dialogue on an image, plain or held, at a pace, begun from the dialogue's start.
+///
+/// A plain run ends when no access is left. A held run then goes on until the chip waits at a poll.
+pub fn replay(
+    alloc: Global,
+    image: &Image,
+    talk: &Dialogue,
+    pace: u16,
+    held: bool,
+) -> Result<Run, OutOfMemory>
+    requires { 1 ≤ pace }
+    ensures { IfOk result (EndsAs image.now pace held talk.now) }
+{
+    let mut now = Progress::begin(alloc, talk);
+    loop {
+        match now.turn(image, talk, pace, held)? {
+            Turned::Ended(end) => return Ok(now.end(end)),
+            _ => {},
         }
     }
 }
