@@ -1,14 +1,13 @@
+pub mod CalmAccess
 pub mod CalmIdle
 pub mod CalmNext
 pub mod CalmReads
-pub mod CalmRequests
 pub mod Circles
 pub mod EveryFacts
 pub mod EveryLaw
 pub mod EveryRuns
 pub mod EveryWalks
 pub mod LoopsGate
-pub mod LoopsTurn
 pub mod Single
 pub mod Starts
 pub mod Steady
