@@ -1,15 +1,15 @@
 -- Where an instruction is idle, it changes the address of the next instruction alone.
-use Rattle.std.proofs.Common.{◌≡◌, ℕ, ◌+◌, ◌*◌, ◌/◌, ◌%◌, Bool, true, false, not, ◌&&◌, ◌||◌, refl, sym, ap, subst, arith, ◌∙◌, ◌⊎◌, inl, inr, Option, Some, None}
-use Rattle.std.specs.Prelude.{◌==◌, if◌then◌else◌}
+use Rattle.std.proofs.Common.{◌≡◌, ℕ, ◌+◌, ◌*◌, ◌/◌, ◌%◌, Bool, true, false, not, ◌&&◌, ◌||◌, refl, sym, subst, arith, ◌⊎◌, inl, inr, Option, Some, None}
+use Rattle.std.specs.Prelude.{◌==◌}
 use Rattle.std.specs.Int.Bits.{bit_xor, xor_zero_r}
-use Rattle.std.proofs.lemmas.Bool.{and_parts, or_cases, or_left, eqb-true, not_from_true, not_from_false, and_right}
+use Rattle.std.proofs.lemmas.Bool.{and_parts, or_cases, eqb-true, not_from_true, and_right}
 use Rattle.wb_word.specs.Encoding.{instr_of}
 use Rattle.wb_word.specs.declared.conditions.Cond.{Cond}
 use Rattle.wb_word.specs.declared.conditions.Cond.TheVariants as cond
 use Rattle.wb_word.specs.declared.numbers.Addr.{Addr}
 use Rattle.wb_word.specs.declared.numbers.Spare.{Spare}
 use Rattle.wb_word.specs.declared.words.Instr.{Instr}
-use Rattle.wb_word.specs.declared.words.Instr.TheVariants.{Op, Rt, Jp, Ld}
+use Rattle.wb_word.specs.declared.words.Instr.TheVariants.{Jp}
 use Rattle.wb_rom.specs.declared.images.Image.{Image}
 use Rattle.wb_machine.specs.State.{State}
 use Rattle.wb_machine.specs.Next.{carried, computed, computed_flags, bus_of, operand, worked, worked_flags, pc_after, sp_after, rp_after, dp_after, a_after, b_after, tr_after, trb_after, k_after, l_after, dr_after, sr_after, so_after, flags_a_after, flags_b_after, ram_after, stack_after, regs_after, next_by, next, taken, dp_stepped}

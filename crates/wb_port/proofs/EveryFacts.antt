@@ -1,10 +1,6 @@
 -- Facts on single instructions and single accesses.
-use Rattle.std.proofs.Common.{◌≡◌, ℕ, suc, ◌<◌, Bool, true, false, refl, sym, ◌∙◌}
-use Rattle.wb_rom.specs.declared.images.Image.{Image}
-use Rattle.wb_machine.specs.State.{State}
-use Rattle.wb_port.specs.declared.accesses.Access.{Access}
+use Rattle.std.proofs.Common.{refl, sym, ◌∙◌}
 use Rattle.wb_port.specs.declared.accesses.Access.TheVariants as access
-use Rattle.wb_port.specs.declared.chips.Chip.{Chip}
 use Rattle.wb_port.specs.Port.{after_read, after_write, drc, drs}
 use Rattle.wb_port.specs.Wait.{word_of}
 use Rattle.wb_port.specs.Facts.{CalmWordsCommute, CalmWordsKeepThePort, OnlyRaisingWordsRequest, RaisingWordsRequest, RaisingWordsTouch, PollsRaiseNothing, PollsFollowPolls, GatesAreNear, PlacesComeNearer, TestsAreGates, LoopsHaveOneGate, IdleInstructionsMoveAlone, StatusReadsChangeNothing, AccessesRaiseNothing}
