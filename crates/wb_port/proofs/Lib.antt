@@ -3,12 +3,15 @@ pub mod CalmIdle
 pub mod CalmNext
 pub mod CalmReads
 pub mod Circles
+pub mod EveryCourse
 pub mod EveryFacts
 pub mod EveryLaw
 pub mod EveryRuns
+pub mod EveryStops
 pub mod EveryWalks
 pub mod LoopsGate
 pub mod Single
 pub mod Starts
 pub mod Steady
+pub mod Turning
 pub mod Walks

@@ -9,6 +9,7 @@ mod lists;
 mod loops;
 mod points;
 mod port;
+mod replays;
 mod runs;
 mod shapes;
 mod talks;

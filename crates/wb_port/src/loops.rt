@@ -11,7 +11,7 @@ use wb_word::{Addr, Cond, Dst, Instr, Src, Word, decode};
 const LONGEST: u8 = 8;
 
 /// Whether a word touches the host port: it reads or writes DR or the status register, or tests RQM.
-#[tactic(auto, unfolding(crate::specs::Wait::touches), using(crate::proofs::Circles::nearer, crate::proofs::Single::next_follows))]
+#[tactic(auto, unfolding(crate::specs::Wait::touches), using(crate::proofs::Turning::none_left))]
 pub fn touches(word: Word) -> bool
     ensures { result ≡ touches word.value }
 {

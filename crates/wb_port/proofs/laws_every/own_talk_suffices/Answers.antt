@@ -1,3 +1,4 @@
+use Rattle.wb_port.proofs.EveryStops.{back}
 use Rattle.wb_port.proofs.EveryLaw.{own_talk}
 use Rattle.wb_port.proofs.laws_every.own_talk_suffices.Goals as goal
 
