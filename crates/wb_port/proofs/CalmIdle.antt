@@ -1,24 +1,25 @@
 -- Where an instruction is idle, it changes the address of the next instruction alone.
-use Rattle.std.proofs.Common.{◌≡◌, ℕ, ◌+◌, ◌*◌, ◌/◌, ◌%◌, Bool, true, false, not, ◌&&◌, ◌||◌, refl, sym, ap, subst, arith, ◌∙◌, ◌⊎◌, inl, inr, Option, Some, None}
-use Rattle.std.specs.Prelude.{◌==◌, if◌then◌else◌}
+use Rattle.std.proofs.Common.{◌≡◌, ℕ, ◌+◌, ◌*◌, ◌/◌, ◌%◌, Bool, true, false, not, ◌&&◌, ◌||◌, refl, sym, subst, arith, ◌⊎◌, inl, inr, Option, Some, None}
+use Rattle.std.specs.Prelude.{◌==◌}
 use Rattle.std.specs.Int.Bits.{bit_xor, xor_zero_r}
-use Rattle.std.proofs.lemmas.Bool.{and_parts, or_cases, or_left, eqb-true, not_from_true, not_from_false, and_right}
+use Rattle.std.proofs.lemmas.Bool.{and_parts, or_cases, eqb-true, not_from_true, and_right}
 use Rattle.wb_word.specs.Encoding.{instr_of}
 use Rattle.wb_word.specs.declared.conditions.Cond.{Cond}
 use Rattle.wb_word.specs.declared.conditions.Cond.TheVariants as cond
 use Rattle.wb_word.specs.declared.numbers.Addr.{Addr}
 use Rattle.wb_word.specs.declared.numbers.Spare.{Spare}
 use Rattle.wb_word.specs.declared.words.Instr.{Instr}
-use Rattle.wb_word.specs.declared.words.Instr.TheVariants.{Op, Rt, Jp, Ld}
+use Rattle.wb_word.specs.declared.words.Instr.TheVariants.{Jp}
 use Rattle.wb_rom.specs.declared.images.Image.{Image}
 use Rattle.wb_machine.specs.State.{State}
 use Rattle.wb_machine.specs.Next.{carried, computed, computed_flags, bus_of, operand, worked, worked_flags, pc_after, sp_after, rp_after, dp_after, a_after, b_after, tr_after, trb_after, k_after, l_after, dr_after, sr_after, so_after, flags_a_after, flags_b_after, ram_after, stack_after, regs_after, next_by, next, taken, dp_stepped}
 use Rattle.wb_port.specs.declared.chips.Chip.{Chip}
 use Rattle.wb_port.specs.Port.{rqm}
-use Rattle.wb_port.specs.Wait.{instr_is_plain_jump, instr_tests, instr_follow, instr_raises, raises_request, is_test, is_plain, is_poll, word_of, follow}
+use Rattle.wb_port.specs.Wait.{instr_is_plain_jump, instr_tests, instr_follow, raises_request, is_test, is_plain, is_poll, word_of, follow}
 use Rattle.wb_port.specs.Monitor.{place, word_at, is_idle, is_breach, is_leaving, first_breach, observed, stepped}
 use Rattle.wb_port.specs.Facts.{placed, moved_to}
-use Rattle.wb_port.proofs.LoopsTurn.{poll_plain}
+use Rattle.wb_port.proofs.Circles.{poll_plain}
+use Rattle.wb_port.proofs.Single.{plain_calm}
 
 -- the word 0 does nothing: it leaves DP, both of its halves
 dp_left : (dp : ℕ) → bit_xor (dp / 16) 0 * 16 + dp % 16 ≡ dp
@@ -59,22 +60,6 @@ plain_next image m plain stands = by (or_cases _ _ plain)
         (sym (eqb-true _ 0 zero_word)) (nothing_by image m)
     by (inr jump) = instr_by (instr_of (word_of image m.regs.pc)) image m jump stands
 
-zero_quiet : raises_request 0 ≡ false
-unfolding raises_request instr_of
-zero_quiet = refl
-
-jump_quiet : (i : Instr) → instr_is_plain_jump i ≡ true → instr_raises i ≡ false
-jump_quiet (Jp c na spare) jump = refl
-jump_quiet _ jump = cc
-
-pub plain_quiet : (word : ℕ) → is_plain word ≡ true → raises_request word ≡ false
-unfolding is_plain raises_request
-plain_quiet word plain = by (or_cases _ _ plain)
-  where
-    by : (word == 0 ≡ true) ⊎ (instr_is_plain_jump (instr_of word) ≡ true) → instr_raises (instr_of word) ≡ false
-    by (inl zero_word) = subst (λ w. instr_raises (instr_of w) ≡ false) (sym (eqb-true _ 0 zero_word)) zero_quiet
-    by (inr jump) = jump_quiet (instr_of word) jump
-
 breach_left : (b : Option Addr) (at : ℕ) → first_breach b false at ≡ b
 breach_left None at = refl
 breach_left (Some a) at = refl
@@ -107,7 +92,7 @@ unfolding is_breach
 not_breach image c i = and_right _ _ (not_from_true _ i.poll)
 
 idle_quiet : (image : Image) (c : Chip) → Idle image c → raises_request (word_at image c) ≡ false
-idle_quiet image c i = plain_quiet (word_at image c) (poll_plain image (place c) i.poll)
+idle_quiet image c i = plain_calm (word_at image c) (poll_plain image (place c) i.poll)
 
 asked_left : (a : Bool) → (a && true) ≡ a
 asked_left true = refl

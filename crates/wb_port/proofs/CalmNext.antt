@@ -1,6 +1,6 @@
 -- A word that doesn't touch the port works beside DR and the status register: whatever they hold, it leaves them
 -- as they are, and all else becomes the same.
-use Rattle.std.proofs.Common.{◌≡◌, ℕ, Bool, true, false, ◌||◌, refl, ap}
+use Rattle.std.proofs.Common.{◌≡◌, ℕ, false, refl}
 use Rattle.std.proofs.lemmas.Bool.{or_parts}
 use Rattle.wb_word.specs.Encoding.{instr_of}
 use Rattle.wb_word.specs.declared.codes.Acc.TheVariants as acc
@@ -16,7 +16,7 @@ use Rattle.wb_rom.specs.declared.images.Image.{Image}
 use Rattle.wb_machine.specs.State.{State}
 use Rattle.wb_machine.specs.Next.{target, asked, asked_by, moved_dr, moved_sr, pc_after, sp_after, rp_after, dp_after, a_after, b_after, tr_after, trb_after, k_after, l_after, dr_after, sr_after, so_after, flags_a_after, flags_b_after, ram_after, stack_after, regs_after, next_by, next, stack_called}
 use Rattle.wb_port.specs.Port.{ported}
-use Rattle.wb_port.specs.Wait.{src_touches, dst_touches, cond_tests, instr_touches, touches, word_of}
+use Rattle.wb_port.specs.Wait.{src_touches, dst_touches, instr_touches, touches, word_of}
 use Rattle.wb_port.proofs.CalmReads.{carried_calm, worked_calm, worked_flags_calm, taken_calm}
 
 target_calm : (i : Instr) → instr_touches i ≡ false → dst_touches (target i) ≡ false

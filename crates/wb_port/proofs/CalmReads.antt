@@ -1,5 +1,5 @@
 -- What an instruction reads is the same whatever DR and the status register hold, where it doesn't touch the port.
-use Rattle.std.proofs.Common.{◌≡◌, ℕ, Bool, true, false, ◌||◌, refl}
+use Rattle.std.proofs.Common.{◌≡◌, ℕ, false, refl}
 use Rattle.std.proofs.lemmas.Bool.{or_parts}
 use Rattle.wb_word.specs.declared.codes.Acc.{Acc}
 use Rattle.wb_word.specs.declared.codes.Acc.TheVariants as acc

@@ -1,19 +1,17 @@
 -- Facts on single instructions and single accesses.
-use Rattle.std.proofs.Common.{◌≡◌, ℕ, suc, ◌<◌, Bool, true, false, refl, sym, ◌∙◌}
-use Rattle.wb_word.specs.Encoding.{instr_of}
-use Rattle.wb_rom.specs.declared.images.Image.{Image}
-use Rattle.wb_machine.specs.State.{State}
-use Rattle.wb_port.specs.declared.accesses.Access.{Access}
+use Rattle.std.proofs.Common.{refl, sym, ◌∙◌}
 use Rattle.wb_port.specs.declared.accesses.Access.TheVariants as access
-use Rattle.wb_port.specs.declared.chips.Chip.{Chip}
 use Rattle.wb_port.specs.Port.{after_read, after_write, drc, drs}
-use Rattle.wb_port.specs.Wait.{word_of, raises_request, touches}
+use Rattle.wb_port.specs.Wait.{word_of}
 use Rattle.wb_port.specs.Facts.{CalmWordsCommute, CalmWordsKeepThePort, OnlyRaisingWordsRequest, RaisingWordsRequest, RaisingWordsTouch, PollsRaiseNothing, PollsFollowPolls, GatesAreNear, PlacesComeNearer, TestsAreGates, LoopsHaveOneGate, IdleInstructionsMoveAlone, StatusReadsChangeNothing, AccessesRaiseNothing}
+use Rattle.wb_port.proofs.CalmAccess.{access_down}
+use Rattle.wb_port.proofs.CalmIdle.{idle_stepped}
 use Rattle.wb_port.proofs.CalmNext.{calm_next, calm_next_dr, calm_next_sr}
-use Rattle.wb_port.proofs.LoopsTurn.{poll_turned, poll_plain}
-use Rattle.wb_port.proofs.LoopsGate.{gate_within, gate_here, gate_nearer, gate_turned}
-use Rattle.wb_port.proofs.CalmIdle.{plain_quiet, idle_stepped}
-use Rattle.wb_port.proofs.CalmRequests.{quiet_next, loud_next, loud_touches, access_down}
+use Rattle.wb_port.proofs.Circles.{follow_poll, poll_plain, nearer}
+use Rattle.wb_port.proofs.Circles.{gate_near as gate_below}
+use Rattle.wb_port.proofs.LoopsGate.{gate_here, gate_turned}
+use Rattle.wb_port.proofs.Single.{next_keeps, next_raises, plain_calm}
+use Rattle.wb_port.proofs.Single.{raising_touches as word_touches}
 
 pub calm_commutes : CalmWordsCommute
 unfolding after_read after_write drc drs
@@ -27,26 +25,25 @@ pub calm_keeps : CalmWordsKeepThePort
 calm_keeps image m calm = record { dr = calm_next_dr image m calm; sr = calm_next_sr image m calm }
 
 pub only_raised : OnlyRaisingWordsRequest
-only_raised image m quiet stands = sym (quiet_next image m quiet) ∙ stands
+only_raised image m quiet stands = sym (next_keeps image m quiet) ∙ stands
 
 pub raised_stands : RaisingWordsRequest
-raised_stands image m raises = loud_next image m raises
+raised_stands image m raises = next_raises image m raises
 
 pub raising_touches : RaisingWordsTouch
-unfolding raises_request touches
-raising_touches word raises = loud_touches (instr_of word) raises
+raising_touches word raises = word_touches word raises
 
 pub poll_raises_nothing : PollsRaiseNothing
-poll_raises_nothing image at poll = plain_quiet (word_of image at) (poll_plain image at poll)
+poll_raises_nothing image at poll = plain_calm (word_of image at) (poll_plain image at poll)
 
 pub poll_follows : PollsFollowPolls
-poll_follows image at poll = poll_turned image at poll
+poll_follows image at poll = follow_poll image at poll
 
 pub gate_near : GatesAreNear
-gate_near image at poll = gate_within image at poll
+gate_near image at poll = gate_below image at poll
 
 pub comes_nearer : PlacesComeNearer
-comes_nearer image at poll other = gate_nearer image at poll other
+comes_nearer image at poll other = nearer image at poll other
 
 pub test_at_gate : TestsAreGates
 test_at_gate image at test = gate_here image at test

@@ -1,7 +1,7 @@
+pub mod CalmAccess
 pub mod CalmIdle
 pub mod CalmNext
 pub mod CalmReads
-pub mod CalmRequests
 pub mod Circles
 pub mod Ends
 pub mod EveryCourse
