@@ -17,7 +17,6 @@ pub mod EveryRuns
 pub mod EveryStops
 pub mod EveryWalks
 pub mod LoopsGate
-pub mod LoopsTurn
 pub mod Measure
 pub mod Playing
 pub mod Single
