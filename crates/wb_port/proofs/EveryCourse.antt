@@ -1,24 +1,19 @@
 -- Runs by turns and by their course: the same ends.
-use Rattle.std.proofs.Common.{◌≡◌, ℕ, zero, suc, Bool, true, false, not, ◌&&◌, ◌||◌, ◌==◌, Option, Some, None, List, [], ◌∷◌, ◌++◌, ◌⊎◌, append_assoc, refl, sym, ap, subst, ◌∙◌, arith}
+use Rattle.std.proofs.Common.{◌≡◌, ℕ, zero, suc, Bool, true, false, ◌==◌, Option, Some, None, List, [], ◌∷◌, ◌++◌, ◌⊎◌, refl, sym, ap, subst, ◌∙◌}
 use mathlib.Core.Logic.◌⊎◌.{inl, inr}
-use Rattle.std.proofs.lemmas.Bool.{both_ways, and_left, and_right, and_parts}
 use Rattle.std.specs.Option.{option_to_list}
-use Rattle.wb_word.specs.Encoding.{addr_at}
-use Rattle.wb_word.specs.declared.numbers.Addr.{Addr}
 use Rattle.wb_rom.specs.declared.images.Image.{Image}
 use Rattle.wb_port.specs.declared.accesses.Access.{Access}
-use Rattle.wb_port.specs.declared.accesses.Access.TheVariants as access
 use Rattle.wb_port.specs.declared.accesses.Event.TheVariants as event
 use Rattle.wb_port.specs.declared.chips.Chip.{Chip}
 use Rattle.wb_port.specs.declared.runs.Run.{Run}
-use Rattle.wb_port.specs.declared.runs.Run.TheVariants.{Answered, Overrun, Breach}
+use Rattle.wb_port.specs.declared.runs.Run.TheVariants.{Answered}
 use Rattle.wb_port.specs.Port.{rqm, access_reply}
-use Rattle.wb_port.specs.Wait.{is_poll}
-use Rattle.wb_port.specs.Monitor.{place, is_breach, stepped}
+use Rattle.wb_port.specs.Monitor.{is_breach, stepped}
 use Rattle.wb_port.specs.Schedule.{applied}
-use Rattle.wb_port.specs.Run.{Moment, Turn, Gives, Steps, Ends, give, go, is_waiting, turn, goes_on, turns, EndsFrom}
-use Rattle.wb_port.specs.Course.{rests, stop_of, unless_stopped, stride, strides, RestsAt, StopsAs, Ran, Given, AsksAfter, StopsBefore, StopsAfter, IsStop}
-use Rattle.wb_port.proofs.EveryRuns.{moment, gives, works, works_on, waits, answers, now, later, sooner, stays}
+use Rattle.wb_port.specs.Run.{Moment, Turn, Gives, Steps, Ends, go, is_waiting, turn, goes_on, turns, EndsFrom}
+use Rattle.wb_port.specs.Course.{rests, stop_of, stride, strides, RestsAt, StopsAs, Ran}
+use Rattle.wb_port.proofs.EveryRuns.{moment, gives, works, works_on, waits, answers, now, later, stays}
 
 module _ (image : Image) (k : ℕ) where
   -- a turn that gives nothing goes on or ends, by what stops the chip

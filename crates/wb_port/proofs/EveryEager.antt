@@ -1,7 +1,7 @@
 -- An eager host is a host: a plain run that is answered is an obedient schedule.
-use Rattle.std.proofs.Common.{◌≡◌, ℕ, zero, suc, Bool, true, false, ◌&&◌, ◌==◌, Option, Some, None, List, [], ◌∷◌, ◌++◌, ◌⊎◌, append_assoc, refl, sym, ap, subst, ◌∙◌}
+use Rattle.std.proofs.Common.{◌≡◌, ℕ, zero, suc, Bool, true, false, ◌==◌, Option, Some, None, List, [], ◌∷◌, ◌++◌, append_assoc, refl, sym, ap, subst, ◌∙◌}
 use mathlib.Core.Logic.◌⊎◌.{inl, inr}
-use Rattle.std.proofs.lemmas.Bool.{both_ways, eq-eqb}
+use Rattle.std.proofs.lemmas.Bool.{eq-eqb}
 use Rattle.std.proofs.lemmas.List.{append-nil}
 use Rattle.std.specs.Option.{option_to_list}
 use Rattle.wb_rom.specs.declared.images.Image.{Image}
@@ -11,17 +11,16 @@ use Rattle.wb_port.specs.declared.accesses.Event.{Event}
 use Rattle.wb_port.specs.declared.accesses.Event.TheVariants as event
 use Rattle.wb_port.specs.declared.chips.Chip.{Chip}
 use Rattle.wb_port.specs.declared.runs.Run.{Run}
-use Rattle.wb_port.specs.declared.runs.Run.TheVariants.{Answered, Overrun, Breach}
+use Rattle.wb_port.specs.declared.runs.Run.TheVariants.{Answered, Overrun}
 use Rattle.wb_port.specs.Port.{rqm, access_reply}
 use Rattle.wb_port.specs.Monitor.{is_idle, is_breach, stepped}
-use Rattle.wb_port.specs.Schedule.{powered, applied, after, IsPolite, IsPoliteEvent, KeepsPace, told, told_reply, talk_from, said_from, talk, said}
+use Rattle.wb_port.specs.Schedule.{powered, applied, IsPolite, IsPoliteEvent, KeepsPace, talk_from, said_from, talk, said}
 use Rattle.wb_port.specs.Talk.{Talk}
 use Rattle.wb_port.specs.Run.{EndsAs}
-use Rattle.wb_port.specs.Alike.{IsObedient}
 use Rattle.wb_port.specs.Dialogue.{Fits}
 use Rattle.wb_port.specs.Laws.{AnsweredRunsAreSchedules, DifferencesRefute, RepliesDecide}
-use Rattle.wb_port.specs.Course.{stop_of, stride, strides, RestsAt, StopsAs, Ran}
-use Rattle.wb_port.proofs.EveryCourse.{stride_rests, stride_stops, stride_steps, strides_stop, ran_if_ends}
+use Rattle.wb_port.specs.Course.{stop_of, stride, strides, Ran}
+use Rattle.wb_port.proofs.EveryCourse.{stride_rests, stride_stops, stride_steps, ran_if_ends}
 use Rattle.wb_port.proofs.EveryLaw.{told_standing, reply_standing, every_schedule}
 
 module _ (image : Image) (k : ℕ) where

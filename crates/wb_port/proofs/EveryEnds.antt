@@ -1,14 +1,12 @@
 -- How runs end, of whole dialogues.
-use Rattle.std.proofs.Common.{◌≡◌, ℕ, Bool, true, false, List, [], ◌∷◌, ◌++◌, ◌⊎◌, refl, sym, subst}
+use Rattle.std.proofs.Common.{ℕ, true, false, List, [], ◌∷◌, ◌++◌, ◌⊎◌, sym, subst}
 use mathlib.Core.Logic.◌⊎◌.{inl, inr}
-use Rattle.wb_rom.specs.declared.images.Image.{Image}
 use Rattle.wb_port.specs.declared.accesses.Access.{Access}
 use Rattle.wb_port.specs.declared.accesses.Event.TheVariants as event
 use Rattle.wb_port.specs.declared.chips.Chip.{Chip}
-use Rattle.wb_port.specs.declared.runs.Run.{Run}
 use Rattle.wb_port.specs.Schedule.{powered, applied}
 use Rattle.wb_port.specs.Run.{beginning}
-use Rattle.wb_port.specs.Course.{Ran, AsksAfter, StopsAs, StopsBefore, StopsAfter, Given, transfers_of}
+use Rattle.wb_port.specs.Course.{Ran, StopsAs, StopsBefore, StopsAfter, Given, transfers_of}
 use Rattle.wb_port.specs.Laws.{RunsHaveOneEnd, RunsFollowTheirCourse, RequestsAreOne, LastAccessIsGivenAtARequest, HeldRunsStopBeforeOrAfter, LongerRunsStopBefore, ShorterRunsStopToo, StatusReadsStopNothing}
 use Rattle.wb_port.proofs.EveryCourse.{ran_if_ends, ends_if_ran, one_end}
 use Rattle.wb_port.proofs.EveryStops.{asks_one, given_longer, given_shorter, stops_any, strip_to, strip_from, stops_from_ran, ran_from_before, ran_from_after, before_shorter, before_longer}

@@ -1,5 +1,5 @@
 -- Every schedule: what an obedient host hears is what an eager host hears.
-use Rattle.std.proofs.Common.{◌≡◌, ℕ, zero, suc, ◌+◌, Bool, true, false, not, ◌&&◌, ◌||◌, ◌==◌, Option, Some, None, List, [], ◌∷◌, ◌++◌, ◌⊎◌, append_assoc, refl, sym, ap, ap₂, subst, ◌∙◌, arith}
+use Rattle.std.proofs.Common.{◌≡◌, ℕ, zero, suc, Bool, true, false, not, ◌&&◌, ◌==◌, Option, None, List, [], ◌∷◌, ◌++◌, append_assoc, refl, sym, ap, subst, ◌∙◌, arith}
 use mathlib.Core.Logic.◌⊎◌.{inl, inr}
 use Rattle.std.proofs.lemmas.Bool.{both_ways, and_left, and_right, eqb-true, false_from_ne_true, true_from_ne_false, or_right}
 use Rattle.std.proofs.lemmas.List.{append-nil}
@@ -7,29 +7,25 @@ use Rattle.std.specs.Option.{option_to_list}
 use Rattle.wb_word.specs.Encoding.{addr_at}
 use Rattle.wb_word.specs.declared.numbers.Addr.{Addr}
 use Rattle.wb_rom.specs.declared.images.Image.{Image}
-use Rattle.wb_machine.specs.State.{State, power}
+use Rattle.wb_machine.specs.State.{power}
 use Rattle.wb_machine.specs.Next.{next}
 use Rattle.wb_port.specs.declared.accesses.Access.{Access}
 use Rattle.wb_port.specs.declared.accesses.Access.TheVariants as access
 use Rattle.wb_port.specs.declared.accesses.Event.{Event}
 use Rattle.wb_port.specs.declared.accesses.Event.TheVariants as event
-use Rattle.wb_port.specs.declared.accesses.Letter.{Letter}
-use Rattle.wb_port.specs.declared.accesses.Power.{Power}
 use Rattle.wb_port.specs.declared.chips.Chip.{Chip}
-use Rattle.wb_port.specs.declared.chips.Monitor.{Monitor}
-use Rattle.wb_port.specs.declared.runs.Run.{Run}
-use Rattle.wb_port.specs.declared.runs.Run.TheVariants.{Answered, Overrun, Breach}
-use Rattle.wb_port.specs.Port.{rqm, accessed, access_reply}
+use Rattle.wb_port.specs.declared.runs.Run.TheVariants.{Answered, Breach}
+use Rattle.wb_port.specs.Port.{rqm, access_reply}
 use Rattle.wb_port.specs.Wait.{touches, raises_request, is_test, is_poll, word_of, follow, to_gate}
 use Rattle.wb_port.specs.Monitor.{place, word_at, is_idle, is_breach, is_leaving, first_breach, observed, stepped}
-use Rattle.wb_port.specs.Schedule.{powered, applied, after, IsPolite, IsPoliteEvent, KeepsPace, KeepsPaceAt, told, told_reply, talk_from, said_from, talk, said}
-use Rattle.wb_port.specs.Run.{Moment, Turn, Gives, Steps, Ends, go, is_waiting, turn, turns, EndsFrom, EndsAs}
+use Rattle.wb_port.specs.Schedule.{powered, applied, after, IsPolite, KeepsPace, told, told_reply, talk_from, said_from, talk, said}
+use Rattle.wb_port.specs.Run.{Gives, Steps, go, is_waiting, turn, EndsFrom, EndsAs}
 use Rattle.wb_port.specs.Alike.{IsObedient, IsFaithful}
 use Rattle.wb_port.specs.Laws.{OwnTalkSuffices, ObedientSchedulesAreFaithful}
-use Rattle.wb_port.specs.Facts.{placed, moved_to, gate, SamePort}
+use Rattle.wb_port.specs.Facts.{moved_to, gate}
 use Rattle.wb_port.proofs.EveryFacts.{only_raised, test_at_gate, comes_nearer, one_gate, poll_follows, idle_moves, access_raises_nothing}
 use Rattle.wb_port.proofs.EveryRuns.{moment, gives, works, works_on, answers, breaks, executes, now, later, stays}
-use Rattle.wb_port.proofs.EveryWalks.{access_keeps_place, same_rqm, same_reply, no_first, IsQuiet, IsWalk, IsBeside, IsNear, Follows, walk_longer, walk_access, idle_beside, follows_itself, follows_port, follows_access, follows_off, follows_unasked, quiet_no_breach, quiet_step, quiet_port, walk_port, near_port}
+use Rattle.wb_port.proofs.EveryWalks.{access_keeps_place, same_rqm, same_reply, no_first, IsWalk, IsBeside, IsNear, Follows, walk_longer, walk_access, idle_beside, follows_itself, follows_port, follows_access, follows_off, follows_unasked, quiet_no_breach, walk_port, near_port}
 
 no_third : (x y : Bool) → (x && y && false) ≡ false
 no_third true true = refl

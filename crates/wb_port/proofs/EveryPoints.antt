@@ -1,10 +1,9 @@
 -- The points of a held run, access by access.
-use Rattle.std.proofs.Common.{◌≡◌, ℕ, zero, suc, ◌+◌, Bool, true, false, Option, Some, None, List, [], ◌∷◌, ◌++◌, ◌⊎◌, append_assoc, length, length-append, refl, sym, ap, subst, ◌∙◌, arith}
-use mathlib.Core.Logic.◌⊎◌.{inl, inr}
+use Rattle.std.proofs.Common.{◌≡◌, ℕ, zero, suc, ◌+◌, Bool, true, false, Option, Some, None, List, [], ◌∷◌, ◌++◌, append_assoc, length, length-append, refl, sym, ap, subst, ◌∙◌, arith}
 use Rattle.std.proofs.lemmas.Bool.{and_left}
 use Rattle.std.proofs.lemmas.List.{append-nil}
 use Rattle.std.proofs.lemmas.List.Elements.{recursion_from_All}
-use Rattle.std.specs.List.{All, AllByRecursion}
+use Rattle.std.specs.List.{AllByRecursion}
 use Rattle.std.specs.Option.{option_to_list}
 use Rattle.wb_word.specs.declared.sides.Side.{Side}
 use Rattle.wb_rom.specs.declared.images.Image.{Image}
@@ -20,11 +19,11 @@ use Rattle.wb_port.specs.Port.{rqm, access_reply}
 use Rattle.wb_port.specs.Wait.{is_poll}
 use Rattle.wb_port.specs.Monitor.{place, stepped}
 use Rattle.wb_port.specs.Schedule.{powered, applied}
-use Rattle.wb_port.specs.Talk.{Talk, kinds}
+use Rattle.wb_port.specs.Talk.{kinds}
 use Rattle.wb_port.specs.Run.{Moment, Turn, Gives, Steps, Ends, is_waiting, turn, goes_on, turns}
-use Rattle.wb_port.specs.Course.{stop_of, stride, strides, RestsAt, Given}
+use Rattle.wb_port.specs.Course.{stop_of, stride, strides, Given}
 use Rattle.wb_port.specs.Points.{point_of, IsTransfer, Passes}
-use Rattle.wb_port.specs.Laws.{PassesAfter, PassesWithin, PointsArePassedAfterAccesses, LastPointsArePassedAfterAll}
+use Rattle.wb_port.specs.Laws.{PassesAfter, PointsArePassedAfterAccesses, LastPointsArePassedAfterAll}
 use Rattle.wb_port.proofs.EveryReplies.{kinds_append}
 use Rattle.wb_port.proofs.EveryRuns.{moment, gives, waits, stays}
 use Rattle.wb_port.proofs.EveryCourse.{stride_rests, stride_stops, stride_steps, strides_rest, strides_stop, rests_before, rests_here, gone, passed, works_turn, held_turn, works_steps, held_steps}

@@ -1,8 +1,8 @@
 -- Two images that answer alike at each request answer each dialogue alike.
-use Rattle.std.proofs.Common.{◌≡◌, ℕ, zero, suc, ◌+◌, ◌≤◌, Bool, true, false, Option, Some, None, List, [], ◌∷◌, ◌++◌, ◌⊎◌, append_assoc, length, length-append, refl, sym, ap, subst, ◌∙◌, arith}
+use Rattle.std.proofs.Common.{◌≡◌, ℕ, ◌+◌, false, Option, List, [], ◌∷◌, ◌++◌, append_assoc, length, length-append, refl, sym, ap, subst, ◌∙◌, arith}
 use mathlib.Core.Logic.◌⊎◌.{inl, inr}
 use Rattle.std.specs.Option.{option_to_list}
-use Rattle.std.specs.List.{All, AllByRecursion}
+use Rattle.std.specs.List.{AllByRecursion}
 use Rattle.std.proofs.lemmas.List.Elements.{recursion_from_All, All-from_recursion}
 use Rattle.wb_rom.specs.declared.images.Image.{Image}
 use Rattle.wb_port.specs.declared.accesses.Access.{Access}
@@ -15,11 +15,11 @@ use Rattle.wb_port.specs.declared.chips.Chip.{Chip}
 use Rattle.wb_port.specs.declared.runs.Run.TheVariants.{Answered}
 use Rattle.wb_port.specs.Port.{access_reply}
 use Rattle.wb_port.specs.Schedule.{powered, applied}
-use Rattle.wb_port.specs.Talk.{Talk, IsByteAccess, kinds, transfers}
+use Rattle.wb_port.specs.Talk.{IsByteAccess, kinds}
 use Rattle.wb_port.specs.Dialogue.{Fits, AllowsEach}
 use Rattle.wb_port.specs.Points.{IsTransfer}
 use Rattle.wb_port.specs.Course.{RestsAt, Ran, Given, AsksAfter, transfers_of}
-use Rattle.wb_port.specs.Laws.{dialogue, RequestsAlike, RequestsDecide, StatusReadsMoveNoRequest, EndsByReply, LastReplyIsGivenAtARequest}
+use Rattle.wb_port.specs.Laws.{dialogue, RequestsAlike, RequestsDecide, StatusReadsMoveNoRequest, LastReplyIsGivenAtARequest}
 use Rattle.wb_port.proofs.EveryCourse.{ran_if_ends, ends_if_ran}
 use Rattle.wb_port.proofs.EveryStops.{rests_then, rests_one, given_longer}
 use Rattle.wb_port.proofs.EveryEager.{not_stopped}

@@ -1,22 +1,20 @@
 -- Requests: how the monitor stands at a first request.
-use Rattle.std.proofs.Common.{◌≡◌, ℕ, zero, suc, ◌+◌, ◌<◌, Bool, true, false, not, ◌&&◌, ◌||◌, ◌==◌, Option, Some, None, List, [], ◌∷◌, ◌++◌, ◌⊎◌, refl, sym, ap, subst, ◌∙◌, arith}
-use mathlib.Core.Logic.◌⊎◌.{inl, inr}
-use Rattle.std.proofs.lemmas.Bool.{both_ways, and_left, and_right, false_from_ne_true}
+use Rattle.std.proofs.Common.{◌≡◌, ℕ, zero, suc, ◌+◌, ◌<◌, Bool, true, false, ◌==◌, Option, Some, None, List, [], ◌∷◌, refl, sym, ap, subst, ◌∙◌, arith}
+use Rattle.std.proofs.lemmas.Bool.{both_ways, and_left, false_from_ne_true}
 use Rattle.wb_rom.specs.declared.images.Image.{Image}
-use Rattle.wb_machine.specs.State.{State, power}
-use Rattle.wb_machine.specs.Next.{next}
+use Rattle.wb_machine.specs.State.{power}
 use Rattle.wb_port.specs.declared.accesses.Access.{Access}
 use Rattle.wb_port.specs.declared.accesses.Event.TheVariants as event
 use Rattle.wb_port.specs.declared.chips.Chip.{Chip}
 use Rattle.wb_port.specs.declared.runs.Run.{Run}
 use Rattle.wb_port.specs.Port.{rqm}
-use Rattle.wb_port.specs.Wait.{touches, raises_request, is_poll}
-use Rattle.wb_port.specs.Monitor.{place, word_at, is_idle, is_breach, count_after, observed, stepped}
+use Rattle.wb_port.specs.Wait.{raises_request, is_poll}
+use Rattle.wb_port.specs.Monitor.{place, word_at, is_idle, is_breach, observed, stepped}
 use Rattle.wb_port.specs.Schedule.{powered, applied}
 use Rattle.wb_port.specs.Run.{is_waiting}
-use Rattle.wb_port.specs.Course.{stop_of, stride, strides, RestsAt, Given, AsksAfter}
+use Rattle.wb_port.specs.Course.{stop_of, stride, strides, RestsAt, Given}
 use Rattle.wb_port.specs.Laws.{IsFresh, FirstRequestsAreFresh, FreshRequestsAreFirst}
-use Rattle.wb_port.proofs.EveryFacts.{only_raised, poll_raises_nothing, access_raises_nothing}
+use Rattle.wb_port.proofs.EveryFacts.{only_raised, poll_raises_nothing}
 use Rattle.wb_port.proofs.EveryWalks.{IsQuiet, quiet_step, quiet_port, same_rqm}
 use Rattle.wb_port.proofs.EveryLaw.{calm_by, not_idle_off, sane_raised, machine_stepped}
 use Rattle.wb_port.proofs.EveryCourse.{stride_rests, stride_stops, stride_steps, strides_rest, strides_stop, rests_before, rests_here}

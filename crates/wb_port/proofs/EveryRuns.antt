@@ -1,18 +1,14 @@
 -- Runs turn by turn: what a turn does, by the chip and the accesses that are left.
-use Rattle.std.proofs.Common.{◌≡◌, ℕ, zero, suc, Bool, true, false, ◌==◌, Option, Some, None, List, [], ◌∷◌, ◌++◌, refl, sym, ap, subst, ◌∙◌}
-use Rattle.std.specs.Option.{option_to_list}
+use Rattle.std.proofs.Common.{◌≡◌, ℕ, zero, suc, Bool, true, false, ◌==◌, List, [], ◌∷◌, refl, sym, ap, subst, ◌∙◌}
 use Rattle.wb_word.specs.Encoding.{addr_at}
-use Rattle.wb_word.specs.declared.numbers.Addr.{Addr}
 use Rattle.wb_rom.specs.declared.images.Image.{Image}
 use Rattle.wb_port.specs.declared.accesses.Access.{Access}
-use Rattle.wb_port.specs.declared.accesses.Event.TheVariants as event
 use Rattle.wb_port.specs.declared.chips.Chip.{Chip}
 use Rattle.wb_port.specs.declared.runs.Run.{Run}
 use Rattle.wb_port.specs.declared.runs.Run.TheVariants.{Answered, Overrun, Breach}
-use Rattle.wb_port.specs.Port.{rqm, access_reply}
+use Rattle.wb_port.specs.Port.{rqm}
 use Rattle.wb_port.specs.Monitor.{place, is_breach, stepped}
-use Rattle.wb_port.specs.Schedule.{applied}
-use Rattle.wb_port.specs.Run.{Moment, Turn, Gives, Steps, Ends, give, go, is_waiting, turn, turn_at, goes_on, turns, EndsFrom}
+use Rattle.wb_port.specs.Run.{Moment, Turn, Gives, Steps, Ends, give, go, is_waiting, turn, goes_on, turns, EndsFrom}
 
 -- a moment by its parts
 abbrev pub moment : Chip → List Access → List Access → List ℕ → Moment

@@ -1,8 +1,7 @@
 -- A schedule's chip beside the chip of an eager host: how far the one is ahead of the other.
-use Rattle.std.proofs.Common.{◌≡◌, ℕ, zero, suc, ◌+◌, Bool, true, false, not, ◌&&◌, ◌||◌, ◌==◌, Option, Some, None, List, [], ◌∷◌, ◌++◌, ◌⊎◌, refl, sym, ap, ap₂, subst, ◌∙◌, arith}
+use Rattle.std.proofs.Common.{◌≡◌, ℕ, zero, suc, ◌+◌, Bool, true, false, ◌==◌, Option, Some, None, ◌⊎◌, refl, sym, ap, subst, ◌∙◌}
 use mathlib.Core.Logic.◌⊎◌.{inl, inr}
-use Rattle.std.proofs.lemmas.Bool.{both_ways, and_left, and_right}
-use Rattle.std.specs.Option.{option_to_list}
+use Rattle.std.proofs.lemmas.Bool.{both_ways}
 use Rattle.wb_word.specs.declared.numbers.Addr.{Addr}
 use Rattle.wb_rom.specs.declared.images.Image.{Image}
 use Rattle.wb_machine.specs.State.{State}
@@ -13,11 +12,11 @@ use Rattle.wb_port.specs.declared.accesses.Event.TheVariants as event
 use Rattle.wb_port.specs.declared.chips.Chip.{Chip}
 use Rattle.wb_port.specs.declared.chips.Monitor.{Monitor}
 use Rattle.wb_port.specs.Port.{rqm, drs, drc, status_byte, byte_read, after_read, after_write, accessed, access_reply}
-use Rattle.wb_port.specs.Wait.{touches, raises_request, is_test, is_poll, word_of, follow, to_gate}
+use Rattle.wb_port.specs.Wait.{touches, raises_request, is_poll, follow}
 use Rattle.wb_port.specs.Monitor.{place, word_at, is_idle, is_breach, is_leaving, first_breach, observed, stepped}
 use Rattle.wb_port.specs.Schedule.{applied}
 use Rattle.wb_port.specs.Facts.{placed, moved_to, gate, SamePort}
-use Rattle.wb_port.proofs.EveryFacts.{calm_commutes, calm_keeps, only_raised, raising_touches, poll_raises_nothing, poll_follows, comes_nearer, test_at_gate, one_gate, idle_moves, access_raises_nothing}
+use Rattle.wb_port.proofs.EveryFacts.{calm_commutes, calm_keeps, raising_touches, poll_follows, one_gate, idle_moves}
 
 -- what an access leaves, and what it gives, depends on DR and the status register alone
 pub access_keeps_place : (a : Access) (m : State) → (accessed a m).regs.pc ≡ m.regs.pc

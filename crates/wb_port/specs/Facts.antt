@@ -1,5 +1,5 @@
 -- What one instruction, or one access of the host, does to the port: true of every image and every state.
-use Rattle.std.specs.Prelude.{◌≡◌, ℕ, zero, suc, ◌<◌, Bool, true, false}
+use Rattle.std.specs.Prelude.{◌≡◌, ℕ, suc, ◌<◌, true, false}
 use Rattle.wb_rom.specs.declared.images.Image.{Image}
 use Rattle.wb_machine.specs.State.{State}
 use Rattle.wb_machine.specs.Next.{next}
@@ -9,7 +9,7 @@ use Rattle.wb_port.specs.declared.accesses.Event.TheVariants as event
 use Rattle.wb_port.specs.declared.chips.Chip.{Chip}
 use Rattle.wb_port.specs.Port.{rqm, accessed}
 use Rattle.wb_port.specs.Wait.{touches, raises_request, is_test, is_poll, word_of, follow, follow_times, to_gate}
-use Rattle.wb_port.specs.Monitor.{place, word_at, is_idle, stepped}
+use Rattle.wb_port.specs.Monitor.{place, is_idle, stepped}
 use Rattle.wb_port.specs.Schedule.{applied}
 
 -- the machine with this address as that of the next instruction, all else kept

@@ -18,7 +18,7 @@ use Rattle.wb_port.specs.Schedule.{powered, applied, talk, said}
 use Rattle.wb_port.specs.Talk.{Talk, kinds}
 use Rattle.wb_port.specs.Dialogue.{Fits}
 use Rattle.wb_port.specs.Run.{EndsAs}
-use Rattle.wb_port.specs.Course.{strides, RestsAt, StopsAs, Ran, Given, AsksAfter, StopsBefore, StopsAfter, IsStop, transfers_of}
+use Rattle.wb_port.specs.Course.{strides, StopsAs, Ran, Given, AsksAfter, StopsBefore, StopsAfter, IsStop, transfers_of}
 use Rattle.wb_port.specs.Verdicts.{Breaks, Differs}
 use Rattle.wb_port.specs.Points.{Passes, IsTransfer, point_of}
 use Rattle.wb_port.specs.Alike.{IsObedient, IsFaithful, AnswersAlike, NeverBreaches, EverySchedule}
