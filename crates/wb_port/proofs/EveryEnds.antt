@@ -7,9 +7,9 @@ use Rattle.wb_port.specs.declared.chips.Chip.{Chip}
 use Rattle.wb_port.specs.Schedule.{powered, applied}
 use Rattle.wb_port.specs.Run.{beginning}
 use Rattle.wb_port.specs.Course.{Ran, StopsAs, StopsBefore, StopsAfter, Given, transfers_of}
-use Rattle.wb_port.specs.Laws.{RunsHaveOneEnd, RunsFollowTheirCourse, RequestsAreOne, LastAccessIsGivenAtARequest, HeldRunsStopBeforeOrAfter, LongerRunsStopBefore, ShorterRunsStopToo, StatusReadsStopNothing}
+use Rattle.wb_port.specs.Laws.{RunsHaveOneEnd, RunsFollowTheirCourse, RequestsAreOne, GivenChipsAreOne, LastAccessIsGivenAtARequest, HeldRunsStopBeforeOrAfter, LongerRunsStopBefore, ShorterRunsStopToo, StatusReadsStopNothing}
 use Rattle.wb_port.proofs.EveryCourse.{ran_if_ends, ends_if_ran, one_end}
-use Rattle.wb_port.proofs.EveryStops.{asks_one, given_longer, given_shorter, stops_any, strip_to, strip_from, stops_from_ran, ran_from_before, ran_from_after, before_shorter, before_longer}
+use Rattle.wb_port.proofs.EveryStops.{asks_one, given_one, given_longer, given_shorter, stops_any, strip_to, strip_from, stops_from_ran, ran_from_before, ran_from_after, before_shorter, before_longer}
 
 pub one_end_of : RunsHaveOneEnd
 one_end_of image k held d x y h i = one_end image k held (beginning d) x y h i
@@ -22,6 +22,9 @@ course image k held d end = (
 
 pub one_request : RequestsAreOne
 one_request image k accesses c d e h i = asks_one image k accesses c d e h i
+
+pub one_given : GivenChipsAreOne
+one_given image k accesses c d e h i = given_one image k accesses c d e h i
 
 pub last_given : LastAccessIsGivenAtARequest
 last_given image k front x c d = (

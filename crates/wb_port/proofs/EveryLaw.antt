@@ -194,11 +194,11 @@ module _ (image : Image) (k : ℕ) where
   unfolding gate
   gate_of_test at test = let e = test_at_gate image at test in simp e
 
-  idle_by : (c : Chip) → c.monitor.asked ≡ true → is_poll image (place c) ≡ true → is_test (word_at image c) ≡ false → is_idle image c ≡ true
+  pub idle_by : (c : Chip) → c.monitor.asked ≡ true → is_poll image (place c) ≡ true → is_test (word_at image c) ≡ false → is_idle image c ≡ true
   unfolding is_idle
   idle_by c asked poll test = simp (asked, poll, test)
 
-  idle_standing : (c : Chip) → c.monitor.asked ≡ true → is_poll image (place c) ≡ true → rqm c.machine ≡ true → is_idle image c ≡ true
+  pub idle_standing : (c : Chip) → c.monitor.asked ≡ true → is_poll image (place c) ≡ true → rqm c.machine ≡ true → is_idle image c ≡ true
   unfolding is_idle
   idle_standing c asked poll stands = let h = or_right (not (is_test (word_at image c))) true refl in simp (asked, poll, stands, h)
 
@@ -288,7 +288,7 @@ module _ (image : Image) (k : ℕ) where
   unfolding is_breach
   no_breach_unasked c u = simp u
 
-  breach_by : (c : Chip) → c.monitor.asked ≡ true → is_poll image (place c) ≡ false → touches (word_at image c) ≡ true → is_breach image c ≡ true
+  pub breach_by : (c : Chip) → c.monitor.asked ≡ true → is_poll image (place c) ≡ false → touches (word_at image c) ≡ true → is_breach image c ≡ true
   unfolding is_breach
   breach_by c asked off touching = simp (asked, off, touching)
 
@@ -479,7 +479,7 @@ module _ (image : Image) (k : ℕ) where
   heard (event.Step ∷ s) c = heard_step s c (heard s (stepped image c))
   heard (event.Host a ∷ s) c = heard_host a s c (heard s (applied image (event.Host a) c))
 
-  powered_sane : (start : List ℕ) → IsSane (powered start)
+  pub powered_sane : (start : List ℕ) → IsSane (powered start)
   unfolding power rqm
   powered_sane start h = absurd (both_ways false refl h)
 

@@ -20,7 +20,7 @@ use Rattle.wb_port.specs.Dialogue.{Fits, AllowsEach}
 use Rattle.wb_port.specs.Points.{IsTransfer}
 use Rattle.wb_port.specs.Course.{RestsAt, Ran, Given, AsksAfter, transfers_of}
 use Rattle.wb_port.specs.Laws.{dialogue, RequestsAlike, RequestsDecide, StatusReadsMoveNoRequest, LastReplyIsGivenAtARequest}
-use Rattle.wb_port.proofs.EveryCourse.{ran_if_ends, ends_if_ran}
+use Rattle.wb_port.proofs.EveryCourse.{rests_here, ran_if_ends, ends_if_ran}
 use Rattle.wb_port.proofs.EveryStops.{rests_then, rests_one, given_longer}
 use Rattle.wb_port.proofs.EveryEager.{not_stopped}
 
@@ -41,6 +41,21 @@ module _ (image : Image) (k : ℕ) where
   strip_asks (access.Status ∷ l) c d h = let t = asks_rest access.Status l c d h in asks_lifted (transfers_of l) c t.0 d t.1 (strip_asks l t.0 d t.2)
   strip_asks (access.Read ∷ l) c d h = let t = asks_rest access.Read l c d h in asks_more access.Read (transfers_of l) c t.0 d t.1 (strip_asks l (applied image (event.Host access.Read) t.0) d t.2)
   strip_asks (access.Write b ∷ l) c d h = let t = asks_rest (access.Write b) l c d h in asks_more (access.Write b) (transfers_of l) c t.0 d t.1 (strip_asks l (applied image (event.Host (access.Write b)) t.0) d t.2)
+
+  asks_first : (l : List Access) (c d : Chip) → AsksAfter image k l c d → (b : Chip) × RestsAt image k false c b × AsksAfter image k l b d
+  asks_first [] c d h =
+      let r = subst (λ (x : Chip). RestsAt image k false x d) (sym h.given) h.request in
+      (d, r, record { after = d; given = refl; request = rests_here image k false d r.rest })
+  asks_first (a ∷ l) c d h =
+      let g = h.given in
+      let r = g.1 in
+      (g.0, r, record { after = h.after; given = (g.0, rests_here image k false g.0 r.rest, g.2); request = h.request })
+
+  pub unstrip_asks : (l : List Access) (c d : Chip) → AsksAfter image k (transfers_of l) c d → AsksAfter image k l c d
+  unstrip_asks [] c d h = h
+  unstrip_asks (access.Status ∷ l) c d h = let t = asks_first (transfers_of l) c d h in asks_more access.Status l c t.0 d t.1 (unstrip_asks l t.0 d t.2)
+  unstrip_asks (access.Read ∷ l) c d h = let t = asks_rest access.Read (transfers_of l) c d h in asks_more access.Read l c t.0 d t.1 (unstrip_asks l (applied image (event.Host access.Read) t.0) d t.2)
+  unstrip_asks (access.Write b ∷ l) c d h = let t = asks_rest (access.Write b) (transfers_of l) c d h in asks_more (access.Write b) l c t.0 d t.1 (unstrip_asks l (applied image (event.Host (access.Write b)) t.0) d t.2)
 
   -- the last reply of a plain run
   reply_last : (l : List Access) (x : Access) (c : Chip) (s r : List ℕ) → Ran image k false (l ++ x ∷ []) c s (Answered r)
@@ -63,7 +78,7 @@ module _ (image : Image) (k : ℕ) where
   last_reply (a ∷ l) x c d s q (inr h) asks = absurd (not_stopped image k h.at q h.stop)
 
 pub requests_stay : StatusReadsMoveNoRequest
-requests_stay image k l c d h = strip_asks image k l c d h
+requests_stay image k l c d = (strip_asks image k l c d, unstrip_asks image k l c d)
 
 pub last_reply_given : LastReplyIsGivenAtARequest
 last_reply_given image k start front x replies = (

@@ -24,7 +24,7 @@ module _ (image : Image) (k : ℕ) where
   abbrev pub IsNew : Chip → Type 0
   IsNew c = rqm c.machine ≡ true → IsFresh c
 
-  raised_count : (c : Chip) → is_idle image c ≡ false → raises_request (word_at image c) ≡ true → (stepped image c).monitor.count ≡ 0
+  pub raised_count : (c : Chip) → is_idle image c ≡ false → raises_request (word_at image c) ≡ true → (stepped image c).monitor.count ≡ 0
   unfolding stepped observed
   raised_count c i r = simp (i, r)
 
@@ -66,11 +66,11 @@ module _ (image : Image) (k : ℕ) where
     pub asked : c.monitor.asked ≡ true
     pub counted : 0 < c.monitor.count
 
-  unstopped_pace : (c : Chip) → stop_of image k c ≡ None → (c.monitor.count == k) ≡ false
+  pub unstopped_pace : (c : Chip) → stop_of image k c ≡ None → (c.monitor.count == k) ≡ false
   unfolding stop_of
   unstopped_pace c o = false_from_ne_true (c.monitor.count == k) (λ e. let h = simp e at o in absurd (cc))
 
-  unstopped_fine : (c : Chip) → stop_of image k c ≡ None → is_breach image c ≡ false
+  pub unstopped_fine : (c : Chip) → stop_of image k c ≡ None → is_breach image c ≡ false
   unfolding stop_of
   unstopped_fine c o =
       let p = unstopped_pace c o in

@@ -11,6 +11,7 @@ pub mod EveryFacts
 pub mod EveryLaw
 pub mod EveryPigeon
 pub mod EveryPoints
+pub mod EveryRanks
 pub mod EveryReplies
 pub mod EveryRequests
 pub mod EveryRuns

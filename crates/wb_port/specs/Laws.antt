@@ -1,5 +1,5 @@
 -- What schedules, runs and dialogues have to do with one another: true of every image, every start and every pace.
-use Rattle.std.specs.Prelude.{◌≡◌, ◌≢◌, ◌↔◌, ℕ, ◌≤◌, Bool, true, false, List, [], ◌∷◌, ◌++◌, ◌⊎◌, length, All, AllPairs, Contains}
+use Rattle.std.specs.Prelude.{◌≡◌, ◌≢◌, ◌↔◌, ℕ, ◌≤◌, ◌<◌, Bool, true, false, None, List, [], ◌∷◌, ◌++◌, ◌⊎◌, length, All, AllPairs, Contains}
 use Rattle.std.specs.Option.{option_to_list}
 use Rattle.wb_word.specs.declared.numbers.Addr.{Addr}
 use Rattle.wb_word.specs.declared.sides.Side.{Side}
@@ -14,11 +14,13 @@ use Rattle.wb_port.specs.declared.points.Point.{Point}
 use Rattle.wb_port.specs.declared.runs.Run.{Run}
 use Rattle.wb_port.specs.declared.runs.Run.TheVariants.{Answered}
 use Rattle.wb_port.specs.Port.{rqm, access_reply}
+use Rattle.wb_port.specs.Monitor.{stepped}
+use Rattle.wb_port.specs.Rank.{rank_of}
 use Rattle.wb_port.specs.Schedule.{powered, applied, talk, said}
 use Rattle.wb_port.specs.Talk.{Talk, kinds}
 use Rattle.wb_port.specs.Dialogue.{Fits}
-use Rattle.wb_port.specs.Run.{EndsAs}
-use Rattle.wb_port.specs.Course.{strides, StopsAs, Ran, Given, AsksAfter, StopsBefore, StopsAfter, IsStop, transfers_of}
+use Rattle.wb_port.specs.Run.{EndsAs, is_waiting}
+use Rattle.wb_port.specs.Course.{strides, stop_of, RestsAt, StopsAs, Ran, Given, AsksAfter, StopsBefore, StopsAfter, IsStop, transfers_of}
 use Rattle.wb_port.specs.Verdicts.{Breaks, Differs}
 use Rattle.wb_port.specs.Points.{Passes, IsTransfer, point_of}
 use Rattle.wb_port.specs.Alike.{IsObedient, IsFaithful, AnswersAlike, NeverBreaches, EverySchedule}
@@ -108,6 +110,12 @@ RequestsAreOne =
     (image : Image) (k : ℕ) (accesses : List Access) (c d e : Chip)
     → AsksAfter image k accesses c d → AsksAfter image k accesses c e → d ≡ e
 
+-- A chip is one after some accesses were given.
+abbrev pub GivenChipsAreOne : Type 0
+GivenChipsAreOne =
+    (image : Image) (k : ℕ) (accesses : List Access) (c d e : Chip)
+    → Given image k accesses c d → Given image k accesses c e → d ≡ e
+
 -- A chip at which some accesses and one more were given is the one at the request after those, with that one given.
 abbrev pub LastAccessIsGivenAtARequest : Type 0
 LastAccessIsGivenAtARequest =
@@ -165,7 +173,7 @@ StatusReadsStopNothing =
 abbrev pub StatusReadsMoveNoRequest : Type 0
 StatusReadsMoveNoRequest =
     (image : Image) (k : ℕ) (accesses : List Access) (c d : Chip)
-    → AsksAfter image k accesses c d → AsksAfter image k (transfers_of accesses) c d
+    → AsksAfter image k accesses c d ↔ AsksAfter image k (transfers_of accesses) c d
 
 -- a chip that has just raised a request
 pub record IsFresh (c : Chip) : Type 0 where
@@ -185,6 +193,38 @@ FreshRequestsAreFirst =
     → Given image k accesses (powered start) b → strides image k true j b ≡ d
     → rqm d.machine ≡ true → d.monitor.count ≡ 0
     → AsksAfter image k accesses (powered start) d
+
+-- Where a chip comes to a request, it comes there too where it is held.
+abbrev pub RequestsAreOnTheWay : Type 0
+RequestsAreOnTheWay =
+    (image : Image) (k : ℕ) (b d : Chip)
+    → RestsAt image k false b d → (j : ℕ) × (strides image k true j b ≡ d)
+
+-- the chip is in pace, and a request that stands is asked
+pub record IsInPace (k : ℕ) (c : Chip) : Type 0 where
+  pub count : c.monitor.count ≤ k
+  pub asked : rqm c.machine ≡ true → c.monitor.asked ≡ true
+
+-- A held chip stays in pace.
+abbrev pub HeldChipsStayInPace : Type 0
+HeldChipsStayInPace =
+    (image : Image) (k : ℕ) (start : List ℕ) (accesses : List Access) (b : Chip) (j : ℕ)
+    → Given image k accesses (powered start) b → IsInPace k (strides image k true j b)
+
+-- Each instruction of a held chip raises its rank.
+abbrev pub RanksRise : Type 0
+RanksRise =
+    (image : Image) (k : ℕ) (c : Chip)
+    → IsInPace k c → is_waiting image c ≡ false → stop_of image k c ≡ None
+    → rank_of image k c < rank_of image k (stepped image c)
+
+-- Where a held chip strides on after some accesses, it has each rank once.
+abbrev pub RanksAreOnce : Type 0
+RanksAreOnce =
+    (image : Image) (k : ℕ) (start : List ℕ) (accesses : List Access) (b : Chip) (i j : ℕ)
+    → Given image k accesses (powered start) b
+    → rank_of image k (strides image k true i b) ≡ rank_of image k (strides image k true j b)
+    → strides image k true i b ≡ strides image k true j b
 
 -- a held chip to which these accesses were given passes the point
 pub record PassesAfter (image : Image) (s : Side) (k : ℕ) (front : List Access) (c : Chip) (p : Point) : Type 0 where
