@@ -31,15 +31,17 @@ some_above : (image : Image) (at i f : ℕ) → loops_above image at i f ≡ tru
 some_above image at i zero h = absurd (false≢true h)
 some_above image at i (suc f) h =
     elim (or_cases _ _ h) [
-      inl here ↦ (suc i, (omega arith, (omega arith, here)))
-    | inr later ↦ let r = some_above image at (suc i) f later in (r.0, (omega arith, (omega arith, r.1.1.1))) ]
+      | inl here ↦ (suc i, (omega arith, (omega arith, here)))
+      | inr later ↦ let r = some_above image at (suc i) f later in (r.0, (omega arith, (omega arith, r.1.1.1)))
+    ]
 
 is_above : (image : Image) (at i f m : ℕ) → i < m → m ≤ i + f → is_loop image at m ≡ true → loops_above image at i f ≡ true
 is_above image at i zero m more most h = absurd (omega arith)
 is_above image at i (suc f) m more most h =
     elim (cases_eq m (suc i)) [
-      inl e ↦ or_left _ _ (subst (λ (k : ℕ). is_loop image at k ≡ true) e h)
-    | inr ne ↦ or_right _ _ (is_above image at (suc i) f m (omega arith) (omega arith) h) ]
+      | inl e ↦ or_left _ _ (subst (λ (k : ℕ). is_loop image at k ≡ true) e h)
+      | inr ne ↦ or_right _ _ (is_above image at (suc i) f m (omega arith) (omega arith) h)
+    ]
 
 -- a poll begins a loop, and what begins a loop is a poll
 pub poll_loop : (image : Image) (at : ℕ) → is_poll image at ≡ true → (m : ℕ) × IsWaitLoop image at m
@@ -62,28 +64,32 @@ turned_loop image at m l =
       apart = different image m (follow image at) (λ p q less inside. apart p q less inside);
       all = all_plain;
       one = one_test;
-      back = follow-suc image m at ∙ ap (follow image) l.back
+      back = follow-suc image m at ∙ ap (follow image) l.back;
     }
   where
-  apart : (p q : ℕ) → p < q → q < m → follow_times image (suc p) at ≢ follow_times image (suc q) at
-  apart p q less inside e =
-      elim (cases_eq (suc q) m) [
-        inl last ↦ different-at image m 0 (suc p) at l.apart (omega arith) (omega arith)
-            (sym (subst (λ (k : ℕ). follow_times image (suc p) at ≡ follow_times image k at) last e ∙ l.back))
-      | inr ne ↦ different-at image m (suc p) (suc q) at l.apart (omega arith) (omega arith) e ]
-  all_plain : plain image m (follow image at) ≡ true
-  all_plain =
-      let last : is_plain (word_of image (follow_times image m at)) ≡ true =
-          subst (λ (k : ℕ). is_plain (word_of image k) ≡ true) (sym l.back) (plain-at image m 0 at l.some l.all) in
-      (and_parts (is_plain (word_of image at)) (plain image m (follow image at)) (plain-suc image m at ∙ and_from _ _ l.all last)).1
-  rest : (a x t : ℕ) → a + x ≡ t + a → t ≡ 1 → x ≡ 1
-  rest a x t e o = omega arith
-  one_test : tests image m (follow image at) ≡ 1
-  one_test =
-      let e : cond (is_test (word_of image at)) 1 0 + tests image m (follow image at) ≡ tests image m at + cond (is_test (word_of image at)) 1 0 =
-          subst (λ (k : ℕ). cond (is_test (word_of image at)) 1 0 + tests image m (follow image at) ≡ tests image m at + cond (is_test (word_of image k)) 1 0) l.back (tests-suc image m at) in
-      let o : tests image m at ≡ 1 = l.one in
-      rest _ _ _ e o
+    apart : (p q : ℕ) → p < q → q < m → follow_times image (suc p) at ≢ follow_times image (suc q) at
+    apart p q less inside e =
+        elim (cases_eq (suc q) m) [
+          | inl last ↦ different-at image m 0 (suc p) at l.apart (omega arith) (omega arith)
+              (sym (subst (λ (k : ℕ). follow_times image (suc p) at ≡ follow_times image k at) last e ∙ l.back))
+          | inr ne ↦ different-at image m (suc p) (suc q) at l.apart (omega arith) (omega arith) e
+        ]
+
+    all_plain : plain image m (follow image at) ≡ true
+    all_plain =
+        let last : is_plain (word_of image (follow_times image m at)) ≡ true =
+        subst (λ (k : ℕ). is_plain (word_of image k) ≡ true) (sym l.back) (plain-at image m 0 at l.some l.all) in
+        (and_parts (is_plain (word_of image at)) (plain image m (follow image at)) (plain-suc image m at ∙ and_from _ _ l.all last)).1
+
+    rest : (a x t : ℕ) → a + x ≡ t + a → t ≡ 1 → x ≡ 1
+    rest a x t e o = omega arith
+
+    one_test : tests image m (follow image at) ≡ 1
+    one_test =
+        let e : cond (is_test (word_of image at)) 1 0 + tests image m (follow image at) ≡ tests image m at + cond (is_test (word_of image at)) 1 0 =
+        subst (λ (k : ℕ). cond (is_test (word_of image at)) 1 0 + tests image m (follow image at) ≡ tests image m at + cond (is_test (word_of image k)) 1 0) l.back (tests-suc image m at) in
+        let o : tests image m at ≡ 1 = l.one in
+        rest _ _ _ e o
 
 -- where a chip is after a plain word of a poll, it is at a poll again
 pub follow_poll : (image : Image) (at : ℕ) → is_poll image at ≡ true → is_poll image (follow image at) ≡ true
@@ -99,9 +105,9 @@ found image zero (suc m) at most some = absurd (omega arith)
 found image (suc n) (suc m) at most some =
     by_test (is_test (word_of image at)) _ _ (λ s. found image n m (follow image at) (omega arith) s) some
   where
-  by_test : (b : Bool) (x t : ℕ) → (0 < t → x < m) → 0 < cond b 1 0 + t → cond b 0 (suc x) < suc m
-  by_test true x t ih s = omega arith
-  by_test false x t ih s = let k : x < m = ih (omega arith) in omega arith
+    by_test : (b : Bool) (x t : ℕ) → (0 < t → x < m) → 0 < cond b 1 0 + t → cond b 0 (suc x) < suc m
+    by_test true x t ih s = omega arith
+    by_test false x t ih s = let k : x < m = ih (omega arith) in omega arith
 
 -- looking further finds the same
 further : (image : Image) (n at : ℕ) → before_test image n at < n → before_test image (suc n) at ≡ before_test image n at
@@ -109,9 +115,9 @@ further image zero at less = absurd (omega arith)
 further image (suc n) at less =
     by_test (is_test (word_of image at)) _ _ (λ s. further image n (follow image at) s) less
   where
-  by_test : (b : Bool) (x y : ℕ) → (x < n → y ≡ x) → cond b 0 (suc x) < suc n → cond b 0 (suc y) ≡ cond b 0 (suc x)
-  by_test true x y ih s = refl
-  by_test false x y ih s = ap suc (ih (omega arith))
+    by_test : (b : Bool) (x y : ℕ) → (x < n → y ≡ x) → cond b 0 (suc x) < suc n → cond b 0 (suc y) ≡ cond b 0 (suc x)
+    by_test true x y ih s = refl
+    by_test false x y ih s = ap suc (ih (omega arith))
 
 pub gate_near : (image : Image) (at : ℕ) → is_poll image at ≡ true → to_gate image at < 8
 unfolding to_gate

@@ -1,6 +1,7 @@
 pub mod Circles
 pub mod Ends
 pub mod Measure
+pub mod Passing
 pub mod Playing
 pub mod Single
 pub mod Starts

@@ -29,13 +29,14 @@ whole-part a r less = omega arith
 merged-top : (bus sr : ℕ) → top (merged bus sr) ≡ top sr
 merged-top bus sr =
     let e : merged bus sr / 32768 ≡ sr / 32768 =
-        ap (λ (x : ℕ). x / 32768) (regroup _ _ _ _ _ _) ∙ whole-part (sr / 32768) _ (small (bus / 8192 % 4) (sr / 4096 % 2) (bus / 128 % 32) (sr / 4 % 32) (bus % 4) (omega arith) (omega arith) (omega arith) (omega arith) (omega arith)) in
+    ap (λ (x : ℕ). x / 32768) (regroup _ _ _ _ _ _) ∙ whole-part (sr / 32768) _ (small (bus / 8192 % 4) (sr / 4096 % 2) (bus / 128 % 32) (sr / 4 % 32) (bus % 4) (omega arith) (omega arith) (omega arith) (omega arith) (omega arith)) in
     ap (λ (q : ℕ). q % 2 == 1) e
   where
-  regroup : (a b c d e f : ℕ) → a + b + c + d + e + f ≡ a + (b + c + d + e + f)
-  regroup a b c d e f = omega arith
-  small : (b c d e f : ℕ) → b < 4 → c < 2 → d < 32 → e < 32 → f < 4 → b * 8192 + c * 4096 + d * 128 + e * 4 + f < 32768
-  small b c d e f bl cl dl el fl = omega arith
+    regroup : (a b c d e f : ℕ) → a + b + c + d + e + f ≡ a + (b + c + d + e + f)
+    regroup a b c d e f = omega arith
+
+    small : (b c d e f : ℕ) → b < 4 → c < 2 → d < 32 → e < 32 → f < 4 → b * 8192 + c * 4096 + d * 128 + e * 4 + f < 32768
+    small b c d e f bl cl dl el fl = omega arith
 
 raised-top : (sr : ℕ) → top (raised sr) ≡ true
 raised-top sr =
@@ -72,8 +73,9 @@ op-keeps x d bus sr h =
 op-raises : (x : Src) (d : Dst) (bus sr : ℕ) → (src_raises x || dst_raises d) ≡ true → top (moved_sr d bus (asked_by x sr)) ≡ true
 op-raises x d bus sr h =
     elim (or_cases _ _ h) [
-      inl s ↦ moved-stays d bus (asked_by x sr) (asked-raises x sr s)
-    | inr r ↦ moved-raises d bus (asked_by x sr) r ]
+      | inl s ↦ moved-stays d bus (asked_by x sr) (asked-raises x sr s)
+      | inr r ↦ moved-raises d bus (asked_by x sr) r
+    ]
 
 instr-keeps : (i : Instr) (image : Image) (s : State) → instr_raises i ≡ false → top (sr_after i image s) ≡ top s.regs.sr
 unfolding sr_after
@@ -135,8 +137,9 @@ pub plain_calm : (word : ℕ) → is_plain word ≡ true → raises_request word
 unfolding is_plain raises_request
 plain_calm word h =
     elim (or_cases _ _ h) [
-      inl z ↦ ap (λ (w : ℕ). instr_raises (instr_of w)) (eqb-true _ _ z) ∙ nothing-calm
-    | inr j ↦ jump-calm (instr_of word) j ]
+      | inl z ↦ ap (λ (w : ℕ). instr_raises (instr_of w)) (eqb-true _ _ z) ∙ nothing-calm
+      | inr j ↦ jump-calm (instr_of word) j
+    ]
 
 -- from a plain word that is no test, or whose test finds RQM, the chip follows
 pc-follows : (i : Instr) (s : State) → instr_is_plain_jump i ≡ true → (instr_tests i ≡ false) ⊎ (rqm s ≡ true) → pc_after i s ≡ instr_follow i s.regs.pc
@@ -160,5 +163,6 @@ unfolding is_plain is_test follow
 next_follows image s h g =
     next-pc image s
     ∙ elim (or_cases _ _ h) [
-        inl z ↦ nothing-follows _ s (eqb-true _ _ z)
-      | inr j ↦ pc-follows (instr_at image s) s j g ]
+      | inl z ↦ nothing-follows _ s (eqb-true _ _ z)
+      | inr j ↦ pc-follows (instr_at image s) s j g
+    ]

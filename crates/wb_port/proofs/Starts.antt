@@ -7,4 +7,5 @@ use Rattle.wb_port.specs.Talk.{IsStart}
 pub zeros : IsStart (replicate 256 0)
 zeros = record {
   len = length-replicate {A = ℕ} 256 0;
-  words = All-replicate {X = ℕ} (λ word. word < 65536) 256 0 (lit< tt) }
+  words = All-replicate {X = ℕ} (λ word. word < 65536) 256 0 (lit< tt);
+}

@@ -98,10 +98,10 @@ unfolding built
 gave image k held d old new a at r chip count said =
     turn_gives image k held (moment_of d old) a (drop (old.given + 1) d.accesses) (next_left d.accesses old.given a at) r
     ∙ ap (Gives a)
-      (built_same _ _ _ _ _ _ _ _ (sym chip)
-        (sym (ap (λ (i : ℕ). take i d.accesses) count ∙ next_given d.accesses old.given a at))
-        (sym (ap (λ (i : ℕ). drop i d.accesses) count))
-        (sym said))
+    (built_same _ _ _ _ _ _ _ _ (sym chip)
+    (sym (ap (λ (i : ℕ). take i d.accesses) count ∙ next_given d.accesses old.given a at))
+    (sym (ap (λ (i : ℕ). drop i d.accesses) count))
+    (sym said))
 
 some_left : (xs : List Access) (i : ℕ) → i < length xs → (x : Access) × (slice_get xs i ≡ Some x)
 some_left xs i less =

@@ -68,11 +68,9 @@ impl Progress {
         held: bool,
     ) -> Result<Turned, OutOfMemory>
         requires { self.old.chip.monitor.count ≤ pace }
-        ensures turned {
-            IfOk result
+        ensures turned { IfOk result
             (λ t. IsTurned t (turn image.now pace held (moment_of talk.now self.old))
-                (moment_of talk.now self.old) (moment_of talk.now self.new))
-        }
+            (moment_of talk.now self.old) (moment_of talk.now self.new)) }
         ensures paced { self.new.chip.monitor.count ≤ pace }
     {
         if self.given < talk.len() {
@@ -95,15 +93,11 @@ impl Progress {
 
     /// An access is given.
     fn give(&mut self, access: Access) -> Result<(), OutOfMemory>
-        ensures chip {
-            self.new.chip
-            ≡ record self.old.chip { machine = accessed access self.old.chip.machine }
-        }
-        ensures said {
-            OnOk result
+        ensures chip { self.new.chip
+            ≡ record self.old.chip { machine = accessed access self.old.chip.machine } }
+        ensures said { OnOk result
             (self.new.said
-            ≡ self.old.said ++ option_to_list (access_reply access self.old.chip.machine))
-        }
+            ≡ self.old.said ++ option_to_list (access_reply access self.old.chip.machine)) }
         ensures given { self.new.given ≡ self.old.given }
     {
         if let Some(byte) = self.chip.access(access) {
@@ -115,10 +109,8 @@ impl Progress {
     /// An instruction is executed, unless the pace is used up or the next word is a breach.
     fn go(&mut self, image: &Image, pace: u16) -> Turned
         requires { self.old.chip.monitor.count ≤ pace }
-        ensures turned {
-            (d : Talk) → IsTurned result (go image.now pace (moment_of d self.old))
-                (moment_of d self.old) (moment_of d self.new)
-        }
+        ensures turned { (d : Talk) → IsTurned result (go image.now pace (moment_of d self.old))
+            (moment_of d self.old) (moment_of d self.new) }
         ensures paced { self.new.chip.monitor.count ≤ pace }
     {
         if self.chip.monitor.count == u64::from(pace) {
@@ -142,7 +134,11 @@ impl Progress {
     pub(crate) fn end(self, end: End) -> Run
         ensures { result ≡ run_of end self.said }
     {
-        let Progress { chip: _, given: _, said } = self;
+        let Progress {
+            chip: _,
+            given: _,
+            said,
+        } = self;
         match end {
             End::Answered => Run::Answered(said),
             End::Overrun => Run::Overrun,

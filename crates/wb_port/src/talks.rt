@@ -36,10 +36,8 @@ impl Dialogue {
 
     /// One more access at the end.
     pub fn push(&mut self, access: Access) -> Result<(), OutOfMemory>
-        ensures ok {
-            OnOk result
-            (self.new ≡ record self.old { accesses = self.old.accesses ++ access ∷ [] })
-        }
+        ensures ok { OnOk result
+            (self.new ≡ record self.old { accesses = self.old.accesses ++ access ∷ [] }) }
         ensures err { OnErr result (self.new ≡ self.old) }
     {
         self.accesses.push(access)?;

@@ -12,15 +12,18 @@ returns-then-self-from-clause-turned c =
 
 pub returns-then-is_breach-clause-turned : goal.returns-then-is_breach-clause-turned
 returns-then-is_breach-clause-turned c =
-    λ d. (go_breaks c.args.image.now c.args.pace (moment_of d c.args.self.now) c.place.result
-      (λ e. c.if-self-from.false (e ∙ sym c.from.ensures)) (sym c.if-is_breach.ensures) c.place.ensures, refl)
+    λ d. (
+      go_breaks c.args.image.now c.args.pace (moment_of d c.args.self.now) c.place.result
+          (λ e. c.if-self-from.false (e ∙ sym c.from.ensures)) (sym c.if-is_breach.ensures) c.place.ensures,
+      refl,
+    )
 
 pub returns-clause-turned : goal.returns-clause-turned
 returns-clause-turned c =
     let most = stepped_count c.args.image.now c.args.self.now.chip in
     let small = capped_is (stepped c.args.image.now c.args.self.now.chip) (omega arith) in
     λ d. go_steps c.args.image.now c.args.pace (moment_of d c.args.self.now)
-      (λ e. c.if-self-from.false (e ∙ sym c.from.ensures)) (sym c.if-is_breach.ensures)
+    (λ e. c.if-self-from.false (e ∙ sym c.from.ensures)) (sym c.if-is_breach.ensures)
     ∙ ap (λ (x : Chip). Steps (record { chip = x; given = take c.args.self.now.given d.accesses; left = drop c.args.self.now.given d.accesses; said = c.args.self.now.said })) (sym (c.step.ensures ∙ small))
 
 pub returns-clause-paced : goal.returns-clause-paced
