@@ -29,29 +29,33 @@ view-go : (image : Image) (k : ℕ) (held : Bool) (m : Moment) → is_waiting im
 unfolding go
 view-go image k held m busy = by_count (m.chip.monitor.count == k) refl
   where
-  by_breach : (b : Bool) → m.chip.monitor.count ≢ k → is_breach image m.chip ≡ b → View image k held m (cond b (Ends (Breach (addr_at (place m.chip)))) (Steps (record m { chip = stepped image m.chip })))
-  by_breach true other e = ends _
-  by_breach false other e = steps other e busy
-  by_count : (b : Bool) → (m.chip.monitor.count == k) ≡ b → View image k held m (cond b (Ends Overrun) (cond (is_breach image m.chip) (Ends (Breach (addr_at (place m.chip)))) (Steps (record m { chip = stepped image m.chip }))))
-  by_count true e = ends _
-  by_count false e = by_breach (is_breach image m.chip) (eqb-false _ _ e) refl
+    by_breach : (b : Bool) → m.chip.monitor.count ≢ k → is_breach image m.chip ≡ b → View image k held m (cond b (Ends (Breach (addr_at (place m.chip)))) (Steps (record m { chip = stepped image m.chip })))
+    by_breach true other e = ends _
+    by_breach false other e = steps other e busy
+
+    by_count : (b : Bool) → (m.chip.monitor.count == k) ≡ b → View image k held m (cond b (Ends Overrun) (cond (is_breach image m.chip) (Ends (Breach (addr_at (place m.chip)))) (Steps (record m { chip = stepped image m.chip }))))
+    by_count true e = ends _
+    by_count false e = by_breach (is_breach image m.chip) (eqb-false _ _ e) refl
 
 pub view : (image : Image) (k : ℕ) (held : Bool) (m : Moment) → View image k held m (turn image k held m)
 unfolding turn
 view image k held m = by_left m.left refl
   where
-  by_request : (a : Access) (rest : List Access) (r : Bool) → m.left ≡ a ∷ rest → rqm m.chip.machine ≡ r → View image k held m (cond r (Gives a (give image a rest m)) (go image k m))
-  by_request a rest true left on = gives a rest left on
-  by_request a rest false left off = view-go image k held m (and_left _ _ off)
-  by_wait : (w : Bool) → is_waiting image m.chip ≡ w → View image k held m (cond w (Ends (Answered m.said)) (go image k m))
-  by_wait true e = ends _
-  by_wait false e = view-go image k held m e
-  by_mode : (h : Bool) → View image k held m (turn_at image k h [] m)
-  by_mode false = ends _
-  by_mode true = by_wait (is_waiting image m.chip) refl
-  by_left : (left : List Access) → m.left ≡ left → View image k held m (turn_at image k held left m)
-  by_left [] e = by_mode held
-  by_left (a ∷ rest) e = by_request a rest (rqm m.chip.machine) e refl
+    by_request : (a : Access) (rest : List Access) (r : Bool) → m.left ≡ a ∷ rest → rqm m.chip.machine ≡ r → View image k held m (cond r (Gives a (give image a rest m)) (go image k m))
+    by_request a rest true left on = gives a rest left on
+    by_request a rest false left off = view-go image k held m (and_left _ _ off)
+
+    by_wait : (w : Bool) → is_waiting image m.chip ≡ w → View image k held m (cond w (Ends (Answered m.said)) (go image k m))
+    by_wait true e = ends _
+    by_wait false e = view-go image k held m e
+
+    by_mode : (h : Bool) → View image k held m (turn_at image k h [] m)
+    by_mode false = ends _
+    by_mode true = by_wait (is_waiting image m.chip) refl
+
+    by_left : (left : List Access) → m.left ≡ left → View image k held m (turn_at image k held left m)
+    by_left [] e = by_mode held
+    by_left (a ∷ rest) e = by_request a rest (rqm m.chip.machine) e refl
 
 -- what holds at each moment of a run: a standing request is asked, and the count is at most k
 pub record IsOngoing (k : ℕ) (m : Moment) : Type 0 where
@@ -69,10 +73,11 @@ asked_raised image c raises = or_left _ _ raises
 pub stepped_sound : (image : Image) (c : Chip) → IsSound c → IsSound (stepped image c)
 stepped_sound image c sound on =
     elim (cases_Bool (raises_request (word_at image c))) [
-      inl raises ↦ asked_raised image c raises
-    | inr quiet ↦
-        let was : rqm c.machine ≡ true = sym (ap rqm (stepped_machine image c) ∙ next_keeps image c.machine quiet) ∙ on in
-        asked_stays image c was (sound was) ]
+      | inl raises ↦ asked_raised image c raises
+      | inr quiet ↦
+          let was : rqm c.machine ≡ true = sym (ap rqm (stepped_machine image c) ∙ next_keeps image c.machine quiet) ∙ on in
+          asked_stays image c was (sound was)
+    ]
 
 given_linger : (image : Image) (a : Access) (c : Chip) → linger image (record c { machine = accessed a c.machine }) ≡ linger image c
 unfolding linger after_read after_write
@@ -113,7 +118,8 @@ pub stepped_ongoing : (image : Image) (k : ℕ) (m : Moment) → IsOngoing k m �
 stepped_ongoing image k m fit other =
     record {
       sound = stepped_sound image m.chip fit.sound;
-      small = let h = fit.small in let n = stepped_count image m.chip in omega arith }
+      small = let h = fit.small in let n = stepped_count image m.chip in omega arith;
+    }
 
 pub given_ongoing : (image : Image) (k : ℕ) (m : Moment) (a : Access) (rest : List Access) → IsOngoing k m → rqm m.chip.machine ≡ true → IsOngoing k (give image a rest m)
 given_ongoing image k m a rest fit on = record { sound = λ r. fit.sound on; small = fit.small }
@@ -154,10 +160,10 @@ later image k held m x e cost r =
       end = r.end;
       ends = ap (λ (y : Moment). turn image k held (turns image k held r.last y)) e ∙ r.ends;
       few =
-        let f : instructions image k held r.last (goes_on (turn image k held m) m) ≡ instructions image k held r.last x =
-            ap (λ (y : Moment). instructions image k held r.last y) e in
-        let g : instructions image k held r.last x ≤ budget image k x = r.few in
-        omega arith
+          let f : instructions image k held r.last (goes_on (turn image k held m) m) ≡ instructions image k held r.last x =
+          ap (λ (y : Moment). instructions image k held r.last y) e in
+          let g : instructions image k held r.last x ≤ budget image k x = r.few in
+          omega arith;
     }
 
 pub ending : (image : Image) (k : ℕ) (held : Bool) (n : ℕ) (m : Moment) → IsOngoing k m → rest_of image k m < n → IsEnding image k held m
@@ -165,18 +171,18 @@ ending image k held zero m fit less = absurd (omega arith)
 ending image k held (suc n) m fit less =
     by (turn image k held m) (view image k held m) refl (λ x f l. ending image k held n x f l)
   where
-  by : (t : Turn) → View image k held m t → turn image k held m ≡ t → ((x : Moment) → IsOngoing k x → rest_of image k x < n → IsEnding image k held x) → IsEnding image k held m
-  by _ (gives a rest left on) e ih =
-      let x = give image a rest m in
-      let cost = ap executed e in
-      let b : budget image k x ≤ budget image k m = given_budget image k m a rest left in
-      let len : length m.left ≡ suc (length rest) = ap length left in
-      later image k held m x (ap (λ (t : Turn). goes_on t m) e) (omega arith)
+    by : (t : Turn) → View image k held m t → turn image k held m ≡ t → ((x : Moment) → IsOngoing k x → rest_of image k x < n → IsEnding image k held x) → IsEnding image k held m
+    by _ (gives a rest left on) e ih =
+        let x = give image a rest m in
+        let cost = ap executed e in
+        let b : budget image k x ≤ budget image k m = given_budget image k m a rest left in
+        let len : length m.left ≡ suc (length rest) = ap length left in
+        later image k held m x (ap (λ (t : Turn). goes_on t m) e) (omega arith)
         (ih x (given_ongoing image k m a rest fit on) (omega arith))
-  by _ (steps other fine busy) e ih =
-      let x : Moment = record m { chip = stepped image m.chip } in
-      let cost : executed (turn image k held m) ≡ 1 = ap executed e in
-      let b : budget image k x < budget image k m = stepped_budget image k m fit other fine busy in
-      later image k held m x (ap (λ (t : Turn). goes_on t m) e) (omega arith)
+    by _ (steps other fine busy) e ih =
+        let x : Moment = record m { chip = stepped image m.chip } in
+        let cost : executed (turn image k held m) ≡ 1 = ap executed e in
+        let b : budget image k x < budget image k m = stepped_budget image k m fit other fine busy in
+        later image k held m x (ap (λ (t : Turn). goes_on t m) e) (omega arith)
         (ih x (stepped_ongoing image k m fit other) (omega arith))
-  by _ (ends end) e ih = record { last = 0; end = end; ends = e; few = omega arith }
+    by _ (ends end) e ih = record { last = 0; end = end; ends = e; few = omega arith }

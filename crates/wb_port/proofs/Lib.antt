@@ -19,6 +19,7 @@ pub mod EveryStops
 pub mod EveryWalks
 pub mod LoopsGate
 pub mod Measure
+pub mod Passing
 pub mod Playing
 pub mod Single
 pub mod Starts

@@ -44,10 +44,10 @@ linger-most : (image : Image) (c : Chip) → linger image c ≤ 7
 unfolding linger
 linger-most image c = by c.monitor.asked (is_poll image (place c)) refl
   where
-  by : (a p : Bool) → is_poll image (place c) ≡ p → lingering a p (to_gate image (place c)) ≤ 7
-  by false p e = omega arith
-  by true false e = omega arith
-  by true true e = let n = gate_near image (place c) e in omega arith
+    by : (a p : Bool) → is_poll image (place c) ≡ p → lingering a p (to_gate image (place c)) ≤ 7
+    by false p e = omega arith
+    by true false e = omega arith
+    by true true e = let n = gate_near image (place c) e in omega arith
 
 -- an idle word where no request stands is no test, and it stays in its loop
 idle-nearer : (image : Image) (c : Chip) → is_idle image c ≡ true → rqm c.machine ≡ false → linger image c ≡ suc (linger image (stepped image c))
@@ -63,9 +63,9 @@ idle-nearer image c idle off =
     let quiet : raises_request (word_at image c) ≡ false = plain_calm _ (poll_plain image (place c) poll) in
     rw (asked, poll, goes, poll_next, calm, quiet) near
   where
-  no_test : (t r : Bool) → (not t || r) ≡ true → r ≡ false → t ≡ false
-  no_test false r h e = refl
-  no_test true r h e = absurd (both_ways _ e h)
+    no_test : (t r : Bool) → (not t || r) ≡ true → r ≡ false → t ≡ false
+    no_test false r h e = refl
+    no_test true r h e = absurd (both_ways _ e h)
 
 pub after_asked : (image : Image) (c : Chip) → raises_request (word_at image c) ≡ false → (c.monitor.asked && not (is_leaving image c)) ≡ false → (stepped image c).monitor.asked ≡ false
 unfolding stepped observed
@@ -75,12 +75,12 @@ leaving_at : (image : Image) (c : Chip) → c.monitor.asked ≡ true → is_poll
 unfolding is_idle is_leaving
 leaving_at image c asked poll busy = by _ _ _ _ asked poll busy
   where
-  by : (a p t r : Bool) → a ≡ true → p ≡ true → (a && p && (not t || r)) ≡ false → (p && t && not r) ≡ true
-  by true true true false ae pe h = refl
-  by true true true true ae pe h = absurd (true≢false h)
-  by true true false r ae pe h = absurd (true≢false h)
-  by true false t r ae pe h = absurd (false≢true pe)
-  by false p t r ae pe h = absurd (false≢true ae)
+    by : (a p t r : Bool) → a ≡ true → p ≡ true → (a && p && (not t || r)) ≡ false → (p && t && not r) ≡ true
+    by true true true false ae pe h = refl
+    by true true true true ae pe h = absurd (true≢false h)
+    by true true false r ae pe h = absurd (true≢false h)
+    by true false t r ae pe h = absurd (false≢true pe)
+    by false p t r ae pe h = absurd (false≢true ae)
 
 unasked : (b p : Bool) (g : ℕ) → b ≡ false → lingering b p g ≡ 0
 unasked false p g e = refl
@@ -96,18 +96,20 @@ counted-linger : (image : Image) (c : Chip) → is_idle image c ≡ false → ra
 unfolding linger
 counted-linger image c busy quiet =
     elim (cases_Bool c.monitor.asked) [
-      inr idle ↦ none (and_left _ _ idle)
-    | inl asked ↦ elim (cases_Bool (is_poll image (place c))) [
-        inl poll ↦ none (and_right _ _ (not_from_true _ (leaving_at image c asked poll busy)))
-      | inr free ↦
-          let e = outside c.monitor.asked (is_poll image (place c)) (to_gate image (place c)) asked free in
-          let most = linger-most image (stepped image c) in
-          subst (λ (n : ℕ). linger image (stepped image c) ≤ n) (sym e) most ] ]
+      | inr idle ↦ none (and_left _ _ idle)
+      | inl asked ↦ elim (cases_Bool (is_poll image (place c))) [
+        | inl poll ↦ none (and_right _ _ (not_from_true _ (leaving_at image c asked poll busy)))
+        | inr free ↦
+            let e = outside c.monitor.asked (is_poll image (place c)) (to_gate image (place c)) asked free in
+            let most = linger-most image (stepped image c) in
+            subst (λ (n : ℕ). linger image (stepped image c) ≤ n) (sym e) most
+      ]
+    ]
   where
-  none : (c.monitor.asked && not (is_leaving image c)) ≡ false → linger image (stepped image c) ≤ linger image c
-  none h =
-      let e : linger image (stepped image c) ≡ 0 = unasked _ _ _ (after_asked image c quiet h) in
-      omega arith
+    none : (c.monitor.asked && not (is_leaving image c)) ≡ false → linger image (stepped image c) ≤ linger image c
+    none h =
+        let e : linger image (stepped image c) ≡ 0 = unasked _ _ _ (after_asked image c quiet h) in
+        omega arith
 
 pub stepped_machine : (image : Image) (c : Chip) → (stepped image c).machine ≡ next image c.machine
 unfolding stepped
@@ -123,14 +125,15 @@ unfolding is_breach
 raising_unasked image c raises fine =
     by _ _ _ (raising_touches _ raises) (false_poll (is_poll image (place c)) refl) fine
   where
-  false_poll : (p : Bool) → is_poll image (place c) ≡ p → is_poll image (place c) ≡ false
-  false_poll false e = e
-  false_poll true e = absurd (both_ways _ (plain_calm _ (poll_plain image (place c) e)) raises)
-  by : (a t p : Bool) → t ≡ true → p ≡ false → (a && t && not p) ≡ false → a ≡ false
-  by false t p te pe h = refl
-  by true true false te pe h = absurd (true≢false h)
-  by true true true te pe h = absurd (true≢false pe)
-  by true false p te pe h = absurd (false≢true te)
+    false_poll : (p : Bool) → is_poll image (place c) ≡ p → is_poll image (place c) ≡ false
+    false_poll false e = e
+    false_poll true e = absurd (both_ways _ (plain_calm _ (poll_plain image (place c) e)) raises)
+
+    by : (a t p : Bool) → t ≡ true → p ≡ false → (a && t && not p) ≡ false → a ≡ false
+    by false t p te pe h = refl
+    by true true false te pe h = absurd (true≢false h)
+    by true true true te pe h = absurd (true≢false pe)
+    by true false p te pe h = absurd (false≢true te)
 
 unasked_idle : (image : Image) (c : Chip) → c.monitor.asked ≡ false → is_idle image c ≡ false
 unfolding is_idle
@@ -144,30 +147,36 @@ idle_poll image c h = (and_parts _ _ (and_parts _ _ h).0).1
 pub lighter : (image : Image) (k t : ℕ) (c : Chip) → IsSound c → c.monitor.count < k → is_breach image c ≡ false → is_waiting image c ≡ false → (k + 7) * (t + open_of (rqm (stepped image c).machine)) + (k - (stepped image c).monitor.count) + linger image (stepped image c) < (k + 7) * (t + open_of (rqm c.machine)) + (k - c.monitor.count) + linger image c
 lighter image k t c sound small fine busy =
     elim (cases_Bool (raises_request (word_at image c))) [
-      inl raises ↦
-        let free : c.monitor.asked ≡ false = raising_unasked image c raises fine in
-        let off : rqm c.machine ≡ false = quiet_off free in
-        let on : rqm (stepped image c).machine ≡ true = ap rqm (stepped_machine image c) ∙ next_raises image c.machine raises in
-        let count : (stepped image c).monitor.count ≡ 0 = stepped_counts image c ∙ rw (unasked_idle image c free, raises) refl in
-        by_request _ _ _ _ (linger image c) _ (ap open_of off) (ap open_of on) count (linger-most image (stepped image c)) small
-    | inr quiet ↦
-        let same : rqm (stepped image c).machine ≡ rqm c.machine = ap rqm (stepped_machine image c) ∙ next_keeps image c.machine quiet in
-        elim (cases_Bool (is_idle image c)) [
-          inl idle ↦
-            let off : rqm c.machine ≡ false = idle_off idle in
-            let count : (stepped image c).monitor.count ≡ c.monitor.count = stepped_counts image c ∙ rw idle refl in
-            by_idle _ _ _ _ _ _ (ap open_of same) count (idle-nearer image c idle off)
-        | inr counted ↦
-            let count : (stepped image c).monitor.count ≡ c.monitor.count + 1 = stepped_counts image c ∙ rw (counted, quiet) refl in
-            by_count _ _ _ _ _ (ap open_of same) count (counted-linger image c counted quiet) ] ]
+      | inl raises ↦
+          let free : c.monitor.asked ≡ false = raising_unasked image c raises fine in
+          let off : rqm c.machine ≡ false = quiet_off free in
+          let on : rqm (stepped image c).machine ≡ true = ap rqm (stepped_machine image c) ∙ next_raises image c.machine raises in
+          let count : (stepped image c).monitor.count ≡ 0 = stepped_counts image c ∙ rw (unasked_idle image c free, raises) refl in
+          by_request _ _ _ _ (linger image c) _ (ap open_of off) (ap open_of on) count (linger-most image (stepped image c)) small
+      | inr quiet ↦
+          let same : rqm (stepped image c).machine ≡ rqm c.machine = ap rqm (stepped_machine image c) ∙ next_keeps image c.machine quiet in
+          elim (cases_Bool (is_idle image c)) [
+            | inl idle ↦
+                let off : rqm c.machine ≡ false = idle_off idle in
+                let count : (stepped image c).monitor.count ≡ c.monitor.count = stepped_counts image c ∙ rw idle refl in
+                by_idle _ _ _ _ _ _ (ap open_of same) count (idle-nearer image c idle off)
+            | inr counted ↦
+                let count : (stepped image c).monitor.count ≡ c.monitor.count + 1 = stepped_counts image c ∙ rw (counted, quiet) refl in
+                by_count _ _ _ _ _ (ap open_of same) count (counted-linger image c counted quiet)
+          ]
+    ]
   where
-  quiet_off : c.monitor.asked ≡ false → rqm c.machine ≡ false
-  quiet_off free = elim (cases_Bool (rqm c.machine)) [ inl on ↦ absurd (both_ways _ free (sound on)) | inr off ↦ off ]
-  idle_off : is_idle image c ≡ true → rqm c.machine ≡ false
-  idle_off idle = elim (cases_Bool (rqm c.machine)) [ inl on ↦ absurd (both_ways _ busy (and_from _ _ on (idle_poll image c idle))) | inr off ↦ off ]
-  by_request : (o o' n n' l l' : ℕ) → o ≡ 1 → o' ≡ 0 → n' ≡ 0 → l' ≤ 7 → n < k → (k + 7) * (t + o') + (k - n') + l' < (k + 7) * (t + o) + (k - n) + l
-  by_request o o' n n' l l' oe oe' ne most less = rw (oe, oe', ne) (omega arith)
-  by_idle : (o o' n n' l l' : ℕ) → o' ≡ o → n' ≡ n → l ≡ suc l' → (k + 7) * (t + o') + (k - n') + l' < (k + 7) * (t + o) + (k - n) + l
-  by_idle o o' n n' l l' oe ne le = rw (oe, ne, le) (omega arith)
-  by_count : (o o' n' l l' : ℕ) → o' ≡ o → n' ≡ c.monitor.count + 1 → l' ≤ l → (k + 7) * (t + o') + (k - n') + l' < (k + 7) * (t + o) + (k - c.monitor.count) + l
-  by_count o o' n' l l' oe ne most = rw (oe, ne) (omega arith)
+    quiet_off : c.monitor.asked ≡ false → rqm c.machine ≡ false
+    quiet_off free = elim (cases_Bool (rqm c.machine)) [ inl on ↦ absurd (both_ways _ free (sound on)) | inr off ↦ off ]
+
+    idle_off : is_idle image c ≡ true → rqm c.machine ≡ false
+    idle_off idle = elim (cases_Bool (rqm c.machine)) [ inl on ↦ absurd (both_ways _ busy (and_from _ _ on (idle_poll image c idle))) | inr off ↦ off ]
+
+    by_request : (o o' n n' l l' : ℕ) → o ≡ 1 → o' ≡ 0 → n' ≡ 0 → l' ≤ 7 → n < k → (k + 7) * (t + o') + (k - n') + l' < (k + 7) * (t + o) + (k - n) + l
+    by_request o o' n n' l l' oe oe' ne most less = rw (oe, oe', ne) (omega arith)
+
+    by_idle : (o o' n n' l l' : ℕ) → o' ≡ o → n' ≡ n → l ≡ suc l' → (k + 7) * (t + o') + (k - n') + l' < (k + 7) * (t + o) + (k - n) + l
+    by_idle o o' n n' l l' oe ne le = rw (oe, ne, le) (omega arith)
+
+    by_count : (o o' n' l l' : ℕ) → o' ≡ o → n' ≡ c.monitor.count + 1 → l' ≤ l → (k + 7) * (t + o') + (k - n') + l' < (k + 7) * (t + o) + (k - c.monitor.count) + l
+    by_count o o' n' l l' oe ne most = rw (oe, ne) (omega arith)

@@ -37,7 +37,7 @@ begins image k held d m e =
     record {
       count = 0;
       way = sym e;
-      fit = subst (IsOngoing k) (sym e) (record { sound = λ on. absurd (false≢true (sym (power_off d.start) ∙ on)); small = omega arith })
+      fit = subst (IsOngoing k) (sym e) (record { sound = λ on. absurd (false≢true (sym (power_off d.start) ∙ on)); small = omega arith });
     }
 
 gives_same : (a b : Access) (m n : Moment) → Gives a m ≡ Gives b n → m ≡ n
@@ -67,51 +67,59 @@ lasts Stepped h = tt
 lasts (Ended e) h = h e refl
 
 -- what a turn that isn't the last leaves: one moment more of the run, from which fewer turns follow
-pub record IsNext (image : Image) (k : ℕ) (held : Bool) (d : Talk) (old new : Moment) : Type 0 where
+pub record IsNext (image : Image) (k : ℕ) (held : Bool) (d : Talk) (n : ℕ) (old new : Moment) : Type 0 where
   pub so_far : IsSoFar image k held d new
+  pub counted : so_far.count ≡ suc n
   pub less : rest_of image k new < rest_of image k old
 
-pub goes_next : (image : Image) (k : ℕ) (held : Bool) (d : Talk) (t : Turned) (old new : Moment) → IsSoFar image k held d old → IsTurned t (turn image k held old) old new → Lasts t → IsNext image k held d old new
+pub goes_next : (image : Image) (k : ℕ) (held : Bool) (d : Talk) (t : Turned) (old new : Moment) (h : IsSoFar image k held d old) → IsTurned t (turn image k held old) old new → Lasts t → IsNext image k held d h.count old new
 goes_next image k held d t old new h e l =
     by (turn image k held old) (view image k held old) refl t e l
   where
-  one : (x : Turn) → turn image k held old ≡ x → goes_on x old ≡ new → turns image k held (suc h.count) (beginning d) ≡ new
-  one x te ge =
-      turns-suc image k held h.count (beginning d)
-      ∙ ap (λ (m : Moment). goes_on (turn image k held m) m) h.way
-      ∙ ap (λ (y : Turn). goes_on y old) te ∙ ge
-  as_given : (a : Access) (rest : List Access) → old.left ≡ a ∷ rest → rqm old.chip.machine ≡ true → turn image k held old ≡ Gives a (give image a rest old) → give image a rest old ≡ new → IsNext image k held d old new
-  as_given a rest left on te ge =
-      record {
-        so_far = record {
-          count = suc h.count;
-          way = one _ te ge;
-          fit = subst (IsOngoing k) ge (given_ongoing image k old a rest h.fit on) };
-        less =
-          subst (λ (m : Moment). rest_of image k m < rest_of image k old) ge
-          (let b = given_budget image k old a rest left in
-          let n : length old.left ≡ suc (length rest) = ap length left in
-          omega arith)
-      }
-  as_stepped : (x : Moment) → x ≡ record old { chip = stepped image old.chip } → old.chip.monitor.count ≢ k → is_breach image old.chip ≡ false → is_waiting image old.chip ≡ false → turn image k held old ≡ Steps x → x ≡ new → IsNext image k held d old new
-  as_stepped x xe other fine busy te ge =
-      record {
-        so_far = record {
-          count = suc h.count;
-          way = one _ te ge;
-          fit = subst (IsOngoing k) (sym xe ∙ ge) (stepped_ongoing image k old h.fit other) };
-        less =
-          subst (λ (m : Moment). rest_of image k m < rest_of image k old) (sym xe ∙ ge)
-          (let b = stepped_budget image k old h.fit other fine busy in
-          omega arith)
-      }
-  by : (x : Turn) → View image k held old x → turn image k held old ≡ x → (s : Turned) → IsTurned s (turn image k held old) old new → Lasts s → IsNext image k held d old new
-  by _ (gives a rest left on) te (Gave b) se l = as_given a rest left on te (gives_same _ _ _ _ (sym te ∙ se))
-  by _ (gives a rest left on) te Stepped se l = absurd (gives_steps _ _ _ (sym te ∙ se))
-  by _ (gives a rest left on) te (Ended f) se l = absurd l
-  by _ (steps other fine busy) te (Gave b) se l = absurd (gives_steps _ _ _ (sym se ∙ te))
-  by _ (steps other fine busy) te Stepped se l = as_stepped _ refl other fine busy te (steps_same _ _ (sym te ∙ se))
-  by _ (steps other fine busy) te (Ended f) se l = absurd l
-  by _ (ends f) te (Gave b) se l = absurd (ends_gives _ _ _ (sym te ∙ se))
-  by _ (ends f) te Stepped se l = absurd (ends_steps _ _ (sym te ∙ se))
-  by _ (ends f) te (Ended g) se l = absurd l
+    one : (x : Turn) → turn image k held old ≡ x → goes_on x old ≡ new → turns image k held (suc h.count) (beginning d) ≡ new
+    one x te ge =
+        turns-suc image k held h.count (beginning d)
+        ∙ ap (λ (m : Moment). goes_on (turn image k held m) m) h.way
+        ∙ ap (λ (y : Turn). goes_on y old) te ∙ ge
+
+    as_given : (a : Access) (rest : List Access) → old.left ≡ a ∷ rest → rqm old.chip.machine ≡ true → turn image k held old ≡ Gives a (give image a rest old) → give image a rest old ≡ new → IsNext image k held d h.count old new
+    as_given a rest left on te ge =
+        record {
+          so_far = record {
+            count = suc h.count;
+            way = one _ te ge;
+            fit = subst (IsOngoing k) ge (given_ongoing image k old a rest h.fit on);
+          };
+          counted = refl;
+          less =
+              subst (λ (m : Moment). rest_of image k m < rest_of image k old) ge
+              (let b = given_budget image k old a rest left in
+              let n : length old.left ≡ suc (length rest) = ap length left in
+              omega arith);
+        }
+
+    as_stepped : (x : Moment) → x ≡ record old { chip = stepped image old.chip } → old.chip.monitor.count ≢ k → is_breach image old.chip ≡ false → is_waiting image old.chip ≡ false → turn image k held old ≡ Steps x → x ≡ new → IsNext image k held d h.count old new
+    as_stepped x xe other fine busy te ge =
+        record {
+          so_far = record {
+            count = suc h.count;
+            way = one _ te ge;
+            fit = subst (IsOngoing k) (sym xe ∙ ge) (stepped_ongoing image k old h.fit other);
+          };
+          counted = refl;
+          less =
+              subst (λ (m : Moment). rest_of image k m < rest_of image k old) (sym xe ∙ ge)
+              (let b = stepped_budget image k old h.fit other fine busy in
+              omega arith);
+        }
+
+    by : (x : Turn) → View image k held old x → turn image k held old ≡ x → (s : Turned) → IsTurned s (turn image k held old) old new → Lasts s → IsNext image k held d h.count old new
+    by _ (gives a rest left on) te (Gave b) se l = as_given a rest left on te (gives_same _ _ _ _ (sym te ∙ se))
+    by _ (gives a rest left on) te Stepped se l = absurd (gives_steps _ _ _ (sym te ∙ se))
+    by _ (gives a rest left on) te (Ended f) se l = absurd l
+    by _ (steps other fine busy) te (Gave b) se l = absurd (gives_steps _ _ _ (sym se ∙ te))
+    by _ (steps other fine busy) te Stepped se l = as_stepped _ refl other fine busy te (steps_same _ _ (sym te ∙ se))
+    by _ (steps other fine busy) te (Ended f) se l = absurd l
+    by _ (ends f) te (Gave b) se l = absurd (ends_gives _ _ _ (sym te ∙ se))
+    by _ (ends f) te Stepped se l = absurd (ends_steps _ _ (sym te ∙ se))
+    by _ (ends f) te (Ended g) se l = absurd l
