@@ -34,7 +34,7 @@ idle_parts : (image : Image) (c : Chip) → is_idle image c ≡ true → rqm c.m
 unfolding is_idle
 idle_parts image c i r =
     let h : (c.monitor.asked && is_poll image (place c) && (not (is_test (word_at image c)) || false)) ≡ true =
-        ap (λ (x : Bool). c.monitor.asked && is_poll image (place c) && (not (is_test (word_at image c)) || x)) (sym r) ∙ i in
+    ap (λ (x : Bool). c.monitor.asked && is_poll image (place c) && (not (is_test (word_at image c)) || x)) (sym r) ∙ i in
     go_by c.monitor.asked (is_poll image (place c)) (is_test (word_at image c)) refl refl refl h
   where
     go_by : (x y z : Bool) → c.monitor.asked ≡ x → is_poll image (place c) ≡ y → is_test (word_at image c) ≡ z → (c.monitor.asked && is_poll image (place c) && (not (is_test (word_at image c)) || false)) ≡ true → IsIdling image c
@@ -60,6 +60,7 @@ module _ (image : Image) (k : ℕ) where
     where
       below : c.monitor.count < k
       below = let n = count_not_k c o in let l = p.count in omega arith
+
       by_idle : (i r : Bool) → is_idle image c ≡ i → raises_request (word_at image c) ≡ r → (stepped image c).monitor.count ≤ k
       by_idle true r i e = let q = idle_count c i in omega arith
       by_idle false true i e = let q = raised_count image k c i e in omega arith
@@ -114,17 +115,17 @@ module _ (image : Image) (k : ℕ) where
       → (stepped image c).monitor.count ≡ c.monitor.count + 1 → rank_of image k c < rank_of image k (stepped image c)
   counted_rank c n true r t q =
       let before : rank_of image k c ≡ (k + 1 + c.monitor.count) * 8 + 7 =
-          ap (λ (x : Bool). rank_by image k c.monitor.asked x c.monitor.count (place c)) r ∙ standing_rank c.monitor.asked c.monitor.count (place c) in
+      ap (λ (x : Bool). rank_by image k c.monitor.asked x c.monitor.count (place c)) r ∙ standing_rank c.monitor.asked c.monitor.count (place c) in
       let d = stepped image c in
       let after : rank_of image k d ≡ (k + 1 + d.monitor.count) * 8 + 7 =
-          ap (λ (x : Bool). rank_by image k d.monitor.asked x d.monitor.count (place d)) t ∙ standing_rank d.monitor.asked d.monitor.count (place d) in
+      ap (λ (x : Bool). rank_by image k d.monitor.asked x d.monitor.count (place d)) t ∙ standing_rank d.monitor.asked d.monitor.count (place d) in
       omega arith
   counted_rank c n false r t q =
       let before : rank_of image k c ≡ c.monitor.count * 8 + (7 - lingers image c.monitor.asked false (place c)) =
-          ap (λ (x : Bool). rank_by image k c.monitor.asked x c.monitor.count (place c)) r ∙ silent_rank c.monitor.asked c.monitor.count (place c) in
+      ap (λ (x : Bool). rank_by image k c.monitor.asked x c.monitor.count (place c)) r ∙ silent_rank c.monitor.asked c.monitor.count (place c) in
       let d = stepped image c in
       let after : rank_of image k d ≡ d.monitor.count * 8 + (7 - lingers image d.monitor.asked false (place d)) =
-          ap (λ (x : Bool). rank_by image k d.monitor.asked x d.monitor.count (place d)) t ∙ silent_rank d.monitor.asked d.monitor.count (place d) in
+      ap (λ (x : Bool). rank_by image k d.monitor.asked x d.monitor.count (place d)) t ∙ silent_rank d.monitor.asked d.monitor.count (place d) in
       let l = lingers_less c.monitor.asked false (place c) in
       let m = lingers_less d.monitor.asked false (place d) in
       omega arith
@@ -132,10 +133,10 @@ module _ (image : Image) (k : ℕ) where
   raised_rank : (c : Chip) → IsInPace k c → rqm c.machine ≡ false → rqm (stepped image c).machine ≡ true → rank_of image k c < rank_of image k (stepped image c)
   raised_rank c p r t =
       let before : rank_of image k c ≡ c.monitor.count * 8 + (7 - lingers image c.monitor.asked false (place c)) =
-          ap (λ (x : Bool). rank_by image k c.monitor.asked x c.monitor.count (place c)) r ∙ silent_rank c.monitor.asked c.monitor.count (place c) in
+      ap (λ (x : Bool). rank_by image k c.monitor.asked x c.monitor.count (place c)) r ∙ silent_rank c.monitor.asked c.monitor.count (place c) in
       let d = stepped image c in
       let after : rank_of image k d ≡ (k + 1 + d.monitor.count) * 8 + 7 =
-          ap (λ (x : Bool). rank_by image k d.monitor.asked x d.monitor.count (place d)) t ∙ standing_rank d.monitor.asked d.monitor.count (place d) in
+      ap (λ (x : Bool). rank_by image k d.monitor.asked x d.monitor.count (place d)) t ∙ standing_rank d.monitor.asked d.monitor.count (place d) in
       let l = p.count in
       omega arith
 
@@ -144,14 +145,14 @@ module _ (image : Image) (k : ℕ) where
       let moves = idle_moves image c (idle_by image k c asked poll test) in
       let d : Chip = moved_to (follow image (place c)) c in
       let before : rank_of image k c ≡ c.monitor.count * 8 + (7 - to_gate image (place c)) =
-          ap (λ (x : Bool). rank_by image k c.monitor.asked x c.monitor.count (place c)) r
-          ∙ (silent_rank c.monitor.asked c.monitor.count (place c)
-             ∙ ap (λ (n : ℕ). c.monitor.count * 8 + (7 - n)) (lingers_here c.monitor.asked (place c) asked poll)) in
+      ap (λ (x : Bool). rank_by image k c.monitor.asked x c.monitor.count (place c)) r
+      ∙ (silent_rank c.monitor.asked c.monitor.count (place c)
+      ∙ ap (λ (n : ℕ). c.monitor.count * 8 + (7 - n)) (lingers_here c.monitor.asked (place c) asked poll)) in
       let same : rqm d.machine ≡ false = same_rqm c.machine d.machine (record { dr = refl; sr = refl }) ∙ r in
       let after : rank_of image k d ≡ c.monitor.count * 8 + (7 - to_gate image (follow image (place c))) =
-          ap (λ (x : Bool). rank_by image k c.monitor.asked x c.monitor.count (follow image (place c))) same
-          ∙ (silent_rank c.monitor.asked c.monitor.count (follow image (place c))
-             ∙ ap (λ (n : ℕ). c.monitor.count * 8 + (7 - n)) (lingers_here c.monitor.asked (follow image (place c)) asked (poll_follows image (place c) poll))) in
+      ap (λ (x : Bool). rank_by image k c.monitor.asked x c.monitor.count (follow image (place c))) same
+      ∙ (silent_rank c.monitor.asked c.monitor.count (follow image (place c))
+      ∙ ap (λ (n : ℕ). c.monitor.count * 8 + (7 - n)) (lingers_here c.monitor.asked (follow image (place c)) asked (poll_follows image (place c) poll))) in
       let nearer = comes_nearer image (place c) poll test in
       let close = gate_near image (place c) poll in
       let less : rank_of image k c < rank_of image k d = omega arith in
@@ -160,7 +161,7 @@ module _ (image : Image) (k : ℕ) where
   silent_stays : (c : Chip) → rqm c.machine ≡ false → raises_request (word_at image c) ≡ false → rqm (stepped image c).machine ≡ false
   silent_stays c r e =
       false_from_ne_true (rqm (stepped image c).machine)
-        (λ t. both_ways (rqm c.machine) r (only_raised image c.machine e (ap rqm (sym (machine_stepped image k c)) ∙ t)))
+      (λ t. both_ways (rqm c.machine) r (only_raised image c.machine e (ap rqm (sym (machine_stepped image k c)) ∙ t)))
 
   pub rises : (c : Chip) → IsInPace k c → is_waiting image c ≡ false → stop_of image k c ≡ None → rank_of image k c < rank_of image k (stepped image c)
   rises c p w o = by_request (rqm c.machine) refl
@@ -172,6 +173,7 @@ module _ (image : Image) (k : ℕ) where
           let q : IsQuiet image k c = record { asked = asked; off = off; calm = calm_by image k c asked off (unstopped_fine image k c o); paced = unstopped_pace image k c o } in
           let e = quiet_step image k c q in
           counted_rank c 0 true r (same_rqm c.machine (stepped image c).machine (quiet_port image k c q) ∙ r) (ap (λ (d : Chip). d.monitor.count) e)
+
       silent : (i e : Bool) → is_idle image c ≡ i → raises_request (word_at image c) ≡ e → rqm c.machine ≡ false → rank_of image k c < rank_of image k (stepped image c)
       silent i true j e r = raised_rank c p r (ap rqm (machine_stepped image k c) ∙ raised_stands image c.machine e)
       silent false false i e r = counted_rank c 0 false r (silent_stays c r e) (counted c i e)
@@ -179,6 +181,7 @@ module _ (image : Image) (k : ℕ) where
         where
           idled : IsIdling image c → rqm c.machine ≡ false → rank_of image k c < rank_of image k (stepped image c)
           idled h r = idle_rank c h.asked h.poll h.test r
+
       by_request : (r : Bool) → rqm c.machine ≡ r → rank_of image k c < rank_of image k (stepped image c)
       by_request true r = standing r
       by_request false r = silent (is_idle image c) (raises_request (word_at image c)) refl refl r
@@ -224,7 +227,7 @@ module _ (image : Image) (k : ℕ) where
 pub on_the_way : RequestsAreOnTheWay
 on_the_way image k b d r =
     back image k (λ (x : Chip). (j : ℕ) × (strides image k true j x ≡ d))
-      (λ c w o h. (suc h.0, ap (strides image k true h.0) (stride_steps image k true c w o) ∙ h.1)) r.steps b d r.comes (zero, refl)
+    (λ c w o h. (suc h.0, ap (strides image k true h.0) (stride_steps image k true c w o) ∙ h.1)) r.steps b d r.comes (zero, refl)
 
 pub stay_in_pace : HeldChipsStayInPace
 stay_in_pace image k start l b j g = in_pace_strides image k true j b (in_pace_given image k l (powered start) b g (in_pace_powered image k start))
