@@ -1,26 +1,25 @@
 -- Held chips stay in pace, and each instruction raises the rank.
-use Rattle.std.proofs.Common.{◌≡◌, ℕ, zero, suc, ◌+◌, ◌-◌, ◌*◌, ◌<◌, ◌≤◌, Bool, true, false, not, ◌&&◌, ◌||◌, ◌==◌, Option, Some, None, List, [], ◌∷◌, ◌⊎◌, refl, sym, ap, subst, ◌∙◌, arith}
+use Rattle.std.proofs.Common.{◌≡◌, ℕ, zero, suc, ◌+◌, ◌-◌, ◌*◌, ◌<◌, ◌≤◌, Bool, true, false, not, ◌&&◌, ◌||◌, Option, Some, None, List, [], ◌∷◌, ◌⊎◌, refl, sym, ap, subst, ◌∙◌, arith}
 use mathlib.Core.Logic.◌⊎◌.{inl, inr}
-use Rattle.std.proofs.lemmas.Bool.{both_ways, and_left, and_right, false_from_ne_true, true_from_ne_false, eqb-false, cases_order}
+use Rattle.std.proofs.lemmas.Bool.{both_ways, and_right, false_from_ne_true, eqb-false}
 use Rattle.wb_rom.specs.declared.images.Image.{Image}
-use Rattle.wb_machine.specs.Next.{next}
 use Rattle.wb_port.specs.declared.accesses.Access.{Access}
 use Rattle.wb_port.specs.declared.accesses.Event.TheVariants as event
 use Rattle.wb_port.specs.declared.chips.Chip.{Chip}
 use Rattle.wb_port.specs.declared.runs.Run.{Run}
 use Rattle.wb_port.specs.Port.{rqm}
-use Rattle.wb_port.specs.Wait.{touches, raises_request, is_test, is_poll, follow, to_gate}
-use Rattle.wb_port.specs.Monitor.{place, word_at, is_idle, is_breach, count_after, observed, stepped}
+use Rattle.wb_port.specs.Wait.{raises_request, is_test, is_poll, follow, to_gate}
+use Rattle.wb_port.specs.Monitor.{place, word_at, is_idle, observed, stepped}
 use Rattle.wb_port.specs.Schedule.{powered, applied}
 use Rattle.wb_port.specs.Run.{is_waiting}
-use Rattle.wb_port.specs.Course.{rests, stop_of, stride, strides, RestsAt, Given}
+use Rattle.wb_port.specs.Course.{rests, stop_of, stride, strides, Given}
 use Rattle.wb_port.specs.Facts.{moved_to}
 use Rattle.wb_port.specs.Rank.{lingers, rank_by, rank_of}
 use Rattle.wb_port.specs.Laws.{RequestsAreOnTheWay, IsInPace, HeldChipsStayInPace, RanksRise, RanksAreOnce}
-use Rattle.wb_port.proofs.EveryFacts.{only_raised, raised_stands, poll_raises_nothing, gate_near, comes_nearer, poll_follows, idle_moves, access_raises_nothing, raising_touches}
+use Rattle.wb_port.proofs.EveryFacts.{only_raised, raised_stands, gate_near, comes_nearer, poll_follows, idle_moves}
 use Rattle.wb_port.proofs.EveryWalks.{IsQuiet, quiet_step, quiet_port, same_rqm}
-use Rattle.wb_port.proofs.EveryLaw.{IsSane, sane_step, sane_access, powered_sane, calm_by, breach_by, not_idle_off, machine_stepped, idle_by, idle_standing}
-use Rattle.wb_port.proofs.EveryCourse.{stride_rests, stride_stops, stride_steps, strides_rest, strides_stop}
+use Rattle.wb_port.proofs.EveryLaw.{sane_step, sane_access, powered_sane, calm_by, machine_stepped, idle_by}
+use Rattle.wb_port.proofs.EveryCourse.{stride_rests, stride_stops, stride_steps}
 use Rattle.wb_port.proofs.EveryStops.{back}
 use Rattle.wb_port.proofs.EveryRequests.{unstopped_pace, unstopped_fine, raised_count}
 

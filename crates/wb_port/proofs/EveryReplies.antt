@@ -19,7 +19,7 @@ use Rattle.wb_port.specs.Talk.{IsByteAccess, kinds}
 use Rattle.wb_port.specs.Dialogue.{Fits, AllowsEach}
 use Rattle.wb_port.specs.Points.{IsTransfer}
 use Rattle.wb_port.specs.Course.{RestsAt, Ran, Given, AsksAfter, transfers_of}
-use Rattle.wb_port.specs.Laws.{dialogue, RequestsAlike, RequestsDecide, StatusReadsMoveNoRequest, LastReplyIsGivenAtARequest}
+use Rattle.wb_port.specs.Laws.{dialogue, RequestsAlike, RequestsDecide, StatusReadsMoveNoRequest, LastReplyIsGivenAtARequest, AnsweredRunsAreGiven}
 use Rattle.wb_port.proofs.EveryCourse.{rests_here, ran_if_ends, ends_if_ran}
 use Rattle.wb_port.proofs.EveryStops.{rests_then, rests_one, given_longer}
 use Rattle.wb_port.proofs.EveryEager.{not_stopped}
@@ -76,6 +76,21 @@ module _ (image : Image) (k : ℕ) where
       let one : t.0 ≡ h.0 = rests_one image k false c t.0 h.0 t.1 h.1 in
       inl (h.0, h.1, last_reply l x (applied image (event.Host a) h.0) d (s ++ option_to_list (access_reply a h.0.machine)) q h.2 (subst (λ (y : Chip). AsksAfter image k l (applied image (event.Host a) y) d) one t.2))
   last_reply (a ∷ l) x c d s q (inr h) asks = absurd (not_stopped image k h.at q h.stop)
+
+  given_of : (l : List Access) (c : Chip) (s r : List ℕ) → Ran image k false l c s (Answered r) → (b : Chip) × Given image k l c b
+  given_of [] c s r h = (c, refl)
+  given_of (a ∷ l) c s r (inl h) = let t = given_of l (applied image (event.Host a) h.0) (s ++ option_to_list (access_reply a h.0.machine)) r h.2 in (t.0, (h.0, h.1, t.1))
+  given_of (a ∷ l) c s r (inr h) = absurd (not_stopped image k h.at r h.stop)
+
+  answered_of : (l : List Access) (c b : Chip) (s : List ℕ) → Given image k l c b → (r : List ℕ) × Ran image k false l c s (Answered r)
+  answered_of [] c b s g = (s, refl)
+  answered_of (a ∷ l) c b s g = let t = answered_of l (applied image (event.Host a) g.0) b (s ++ option_to_list (access_reply a g.0.machine)) g.2 in (t.0, inl (g.0, g.1, t.1))
+
+pub answered_given : AnsweredRunsAreGiven
+answered_given image k start l = (
+  λ h. given_of image k l (powered start) [] h.0 (ran_if_ends image k false l (powered start) [] [] (Answered h.0) h.1),
+  λ h. let t = answered_of image k l (powered start) h.0 [] h.1 in (t.0, ends_if_ran image k false l (powered start) [] [] (Answered t.0) t.1),
+)
 
 pub requests_stay : StatusReadsMoveNoRequest
 requests_stay image k l c d = (strip_asks image k l c d, unstrip_asks image k l c d)

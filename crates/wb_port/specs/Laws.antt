@@ -123,6 +123,13 @@ LastAccessIsGivenAtARequest =
     → Given image k (front ++ x ∷ []) c d
     ↔ ((b : Chip) × AsksAfter image k front c b × (applied image (event.Host x) b ≡ d))
 
+-- A plain run is answered exactly where all of its accesses are given.
+abbrev pub AnsweredRunsAreGiven : Type 0
+AnsweredRunsAreGiven =
+    (image : Image) (k : ℕ) (start : List ℕ) (accesses : List Access)
+    → ((replies : List ℕ) × EndsAs image k false (dialogue start accesses) (Answered replies))
+    ↔ ((b : Chip) × Given image k accesses (powered start) b)
+
 -- what the replies of some accesses and one more are: those of the first, and the last one's, at its request
 pub record EndsByReply (image : Image) (k : ℕ) (start : List ℕ) (front : List Access) (x : Access) (replies : List ℕ) : Type 0 where
   pub earlier : List ℕ

@@ -1,6 +1,6 @@
 //! Runs of dialogues by their accesses, for every image, start and pace.
 //! Each law is the contract of a function that does nothing.
-ghost use Rattle.wb_port.specs.Laws.{RunsHaveOneEnd, RunsFollowTheirCourse, RequestsAreOne, GivenChipsAreOne, LastAccessIsGivenAtARequest, LastReplyIsGivenAtARequest, HeldRunsStopBeforeOrAfter, LongerRunsStopBefore, ShorterRunsStopToo, StatusReadsStopNothing, StatusReadsMoveNoRequest, FirstRequestsAreFresh, FreshRequestsAreFirst, RequestsAreOnTheWay, HeldChipsStayInPace, RanksRise, RanksAreOnce, PointsArePassedAfterAccesses, LastPointsArePassedAfterAll, DifferentPointsAreNoMore};
+ghost use Rattle.wb_port.specs.Laws.{RunsHaveOneEnd, RunsFollowTheirCourse, RequestsAreOne, GivenChipsAreOne, LastAccessIsGivenAtARequest, AnsweredRunsAreGiven, LastReplyIsGivenAtARequest, HeldRunsStopBeforeOrAfter, LongerRunsStopBefore, ShorterRunsStopToo, StatusReadsStopNothing, StatusReadsMoveNoRequest, FirstRequestsAreFresh, FreshRequestsAreFirst, RequestsAreOnTheWay, HeldChipsStayInPace, RanksRise, RanksAreOnce, PointsArePassedAfterAccesses, LastPointsArePassedAfterAll, DifferentPointsAreNoMore};
 
 /// A run has one end at most.
 pub fn runs_have_one_end()
@@ -25,6 +25,11 @@ pub fn given_chips_are_one()
 /// The last access is given at the first request after those before it.
 pub fn last_access_is_given_at_a_request()
     ensures { LastAccessIsGivenAtARequest }
+{}
+
+/// A plain run is answered exactly where all of its accesses are given.
+pub fn answered_runs_are_given()
+    ensures { AnsweredRunsAreGiven }
 {}
 
 /// The replies with one access more are those before it and the last one's, at its request.

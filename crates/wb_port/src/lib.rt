@@ -19,12 +19,12 @@ mod trails;
 pub use accesses::{Access, Event, Kind, Letter, Power};
 pub use chips::{Chip, Monitor};
 pub use laws_runs::{
-    different_points_are_no_more, first_requests_are_fresh, fresh_requests_are_first,
-    given_chips_are_one, held_chips_stay_in_pace, held_runs_stop_before_or_after,
-    last_access_is_given_at_a_request, last_points_are_passed_after_all,
-    last_reply_is_given_at_a_request, longer_runs_stop_before, points_are_passed_after_accesses,
-    ranks_are_once, ranks_rise, requests_are_on_the_way, requests_are_one,
-    runs_follow_their_course, runs_have_one_end, shorter_runs_stop_too,
+    answered_runs_are_given, different_points_are_no_more, first_requests_are_fresh,
+    fresh_requests_are_first, given_chips_are_one, held_chips_stay_in_pace,
+    held_runs_stop_before_or_after, last_access_is_given_at_a_request,
+    last_points_are_passed_after_all, last_reply_is_given_at_a_request, longer_runs_stop_before,
+    points_are_passed_after_accesses, ranks_are_once, ranks_rise, requests_are_on_the_way,
+    requests_are_one, runs_follow_their_course, runs_have_one_end, shorter_runs_stop_too,
     status_reads_move_no_request, status_reads_stop_nothing,
 };
 pub use laws_schedules::{
