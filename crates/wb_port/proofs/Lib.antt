@@ -1,8 +1,12 @@
 pub mod Circles
 pub mod Ends
+pub mod Gates
 pub mod Measure
+pub mod Passed
 pub mod Passing
 pub mod Playing
+pub mod Promises
+pub mod Samples
 pub mod Single
 pub mod Starts
 pub mod Steady
