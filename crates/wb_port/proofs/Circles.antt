@@ -14,7 +14,7 @@ pub record IsWaitLoop (image : Image) (at m : ℕ) : Type 0 where
   pub one : tests image m at ≡ 1
   pub back : follow_times image m at ≡ at
 
-loop_of : (image : Image) (at m : ℕ) → 0 < m → m ≤ 8 → is_loop image at m ≡ true → IsWaitLoop image at m
+pub loop_of : (image : Image) (at m : ℕ) → 0 < m → m ≤ 8 → is_loop image at m ≡ true → IsWaitLoop image at m
 unfolding is_loop
 loop_of image at m some most h =
     let b = and_parts _ _ h in
@@ -22,7 +22,7 @@ loop_of image at m some most h =
     let d = and_parts _ _ t.0 in
     record { some = some; most = most; apart = d.0; all = d.1; one = eqb-true _ _ t.1; back = eqb-true _ _ b.1 }
 
-is_loop_of : (image : Image) (at m : ℕ) → IsWaitLoop image at m → is_loop image at m ≡ true
+pub is_loop_of : (image : Image) (at m : ℕ) → IsWaitLoop image at m → is_loop image at m ≡ true
 unfolding is_loop
 is_loop_of image at m l =
     and_from _ _ (and_from _ _ (and_from _ _ l.apart l.all) (eq-eqb _ _ l.one)) (eq-eqb _ _ l.back)

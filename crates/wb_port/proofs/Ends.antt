@@ -125,7 +125,7 @@ pub given_ongoing : (image : Image) (k : ℕ) (m : Moment) (a : Access) (rest : 
 given_ongoing image k m a rest fit on = record { sound = λ r. fit.sound on; small = fit.small }
 
 -- the end of a run stays
-stays : (image : Image) (k : ℕ) (held : Bool) (j : ℕ) (m : Moment) (e : Run) → turn image k held m ≡ Ends e → turns image k held j m ≡ m
+pub stays : (image : Image) (k : ℕ) (held : Bool) (j : ℕ) (m : Moment) (e : Run) → turn image k held m ≡ Ends e → turns image k held j m ≡ m
 stays image k held zero m e h = refl
 stays image k held (suc j) m e h =
     ap (λ (t : Turn). turns image k held j (goes_on t m)) h ∙ stays image k held j m e h

@@ -17,10 +17,14 @@ pub mod EveryRequests
 pub mod EveryRuns
 pub mod EveryStops
 pub mod EveryWalks
+pub mod Gates
 pub mod LoopsGate
 pub mod Measure
+pub mod Passed
 pub mod Passing
 pub mod Playing
+pub mod Promises
+pub mod Samples
 pub mod Single
 pub mod Starts
 pub mod Steady

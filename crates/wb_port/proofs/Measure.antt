@@ -40,7 +40,7 @@ unfoldable pub budget : Image → ℕ → Moment → ℕ
 budget image k m =
     (k + 7) * (transfers m.left + open_of (rqm m.chip.machine)) + (k - m.chip.monitor.count) + linger image m.chip
 
-linger-most : (image : Image) (c : Chip) → linger image c ≤ 7
+pub linger-most : (image : Image) (c : Chip) → linger image c ≤ 7
 unfolding linger
 linger-most image c = by c.monitor.asked (is_poll image (place c)) refl
   where

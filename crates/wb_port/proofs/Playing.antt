@@ -28,7 +28,7 @@ pub turns-suc : (image : Image) (k : ℕ) (held : Bool) (j : ℕ) (m : Moment) �
 turns-suc image k held zero m = refl
 turns-suc image k held (suc j) m = turns-suc image k held j (goes_on (turn image k held m) m)
 
-power_off : (start : List ℕ) → rqm (power start) ≡ false
+pub power_off : (start : List ℕ) → rqm (power start) ≡ false
 unfolding power rqm
 power_off start = refl
 

@@ -22,7 +22,7 @@ use Rattle.wb_port.specs.Wait.{src_touches, dst_touches, src_raises, dst_raises,
 abbrev pub top : ℕ → Bool
 top sr = sr / 32768 % 2 == 1
 
-whole-part : (a r : ℕ) → r < 32768 → (a * 32768 + r) / 32768 ≡ a
+pub whole-part : (a r : ℕ) → r < 32768 → (a * 32768 + r) / 32768 ≡ a
 whole-part a r less = omega arith
 
 -- a move without a request keeps bit 15

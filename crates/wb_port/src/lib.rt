@@ -3,6 +3,7 @@
 
 mod accesses;
 mod chips;
+mod laws_moments;
 mod laws_runs;
 mod laws_schedules;
 mod laws_single;
@@ -18,6 +19,10 @@ mod trails;
 
 pub use accesses::{Access, Event, Kind, Letter, Power};
 pub use chips::{Chip, Monitor};
+pub use laws_moments::{
+    applied_chips_follow, loops_are_one, loops_are_polls, polls_begin_loops, requests_are_asked,
+    runs_come_to_an_end, trails_hold_the_points, worked_loops,
+};
 pub use laws_runs::{
     answered_runs_are_given, different_points_are_no_more, first_requests_are_fresh,
     fresh_requests_are_first, given_chips_are_one, held_chips_stay_in_pace,
@@ -38,7 +43,7 @@ pub use laws_single::{
     raising_words_touch, status_reads_change_nothing, tests_are_gates,
 };
 pub use lists::{Kinds, Replies};
-pub use loops::{follow, is_poll, is_test, raises, touches};
+pub use loops::{follow, is_poll, is_test, raises, to_gate, touches};
 pub use points::{Point, Points};
 pub use port::{halfway, read, requested, status, write};
 pub use replays::replay;

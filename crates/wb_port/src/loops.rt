@@ -11,7 +11,7 @@ use wb_word::{Addr, Cond, Dst, Instr, Src, Word, decode};
 const LONGEST: u8 = 8;
 
 /// Whether a word touches the host port: it reads or writes DR or the status register, or tests RQM.
-#[tactic(auto, unfolding(crate::specs::Wait::touches), using(crate::proofs::Ends::view))]
+#[tactic(auto, unfolding(crate::specs::Wait::touches))]
 pub fn touches(word: Word) -> bool
     ensures { result ≡ touches word.value }
 {
@@ -65,6 +65,24 @@ pub fn is_poll(image: &Image, at: Addr) -> bool
         here = next;
     }
     false
+}
+
+/// How many words a poll is before the test of its loop, below 8.
+pub fn to_gate(image: &Image, at: Addr) -> u8
+    requires { is_poll image.now at.value ≡ true }
+    ensures value { result ≡ to_gate image.now at.value }
+    ensures near { result < 8 }
+{
+    let mut here = at;
+    let mut words = 0;
+    while !is_test(image.word_at(here)) {
+        let Some(next) = follow(image, here) else {
+            unreachable!()
+        };
+        here = next;
+        words += 1;
+    }
+    words
 }
 
 /// The address after another one, 11 bits.
