@@ -118,7 +118,7 @@ impl Chip {
 
     /// One instruction, and what the observer sees of it.
     #[tactic(auto, unfolding(crate::specs::Monitor::stepped))]
-    fn step(&mut self, image: &Image)
+    pub(crate) fn step(&mut self, image: &Image)
         ensures { self.new ≡ capped (stepped image.now self.old) }
     {
         let seen = self.observe(image);
@@ -127,7 +127,7 @@ impl Chip {
     }
 
     /// One access of the host.
-    fn access(&mut self, access: Access) -> Option<u8>
+    pub(crate) fn access(&mut self, access: Access) -> Option<u8>
         ensures after { self.new ≡ record self.old { machine = accessed access self.old.machine } }
         ensures reply { result ≡ access_reply access self.old.machine }
     {

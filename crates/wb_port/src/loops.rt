@@ -67,6 +67,24 @@ pub fn is_poll(image: &Image, at: Addr) -> bool
     false
 }
 
+/// How many words a poll is before the test of its loop, below 8.
+pub fn to_gate(image: &Image, at: Addr) -> u8
+    requires { is_poll image.now at.value ≡ true }
+    ensures value { result ≡ to_gate image.now at.value }
+    ensures near { result < 8 }
+{
+    let mut here = at;
+    let mut words = 0;
+    while !is_test(image.word_at(here)) {
+        let Some(next) = follow(image, here) else {
+            unreachable!()
+        };
+        here = next;
+        words += 1;
+    }
+    words
+}
+
 /// The address after another one, 11 bits.
 fn after(at: Addr) -> Addr
     ensures { result.value ≡ (at.value + 1) % 2048 }

@@ -1,0 +1,91 @@
+use crate::accesses::Access;
+use std::alloc::Global;
+use std::marker::Model;
+use wb_word::OutOfMemory;
+
+/// A dialogue: what the data RAM holds at power-up, and the accesses of the host in order.
+#[derive(Drop)]
+pub struct Dialogue {
+    start: [u16; 256],
+    accesses: Vec<Access>,
+}
+
+impl Model for Dialogue {
+    ghost use Rattle.wb_port.specs.Talk.{Talk, IsStart};
+
+    ghost Value = { Talk };
+
+    ghost view = { λ d. record { start = d.start; accesses = d.accesses.items } };
+
+    ghost invariant = { λ d. IsStart d.start };
+}
+
+impl Dialogue {
+    ghost use Rattle.std.specs.Prelude.{◌≡◌, ◌<◌, [], ◌∷◌, ◌++◌, Some, OnOk, OnErr, length, replicate, slice_get, slice_index};
+    ghost use Rattle.wb_port.specs.Talk.{Talk, IsStart};
+
+    /// No accesses, from a RAM of zeros.
+    pub fn new(alloc: Global) -> Self
+        ensures value { result ≡ record { start = replicate 256 0; accesses = [] } }
+    {
+        Dialogue {
+            start: [0; 256],
+            accesses: Vec::new(alloc),
+        }
+    }
+
+    /// One more access at the end.
+    pub fn push(&mut self, access: Access) -> Result<(), OutOfMemory>
+        ensures ok { OnOk result
+            (self.new ≡ record self.old { accesses = self.old.accesses ++ access ∷ [] }) }
+        ensures err { OnErr result (self.new ≡ self.old) }
+    {
+        self.accesses.push(access)?;
+        Ok(())
+    }
+
+    /// The accesses.
+    pub fn list(&self) -> &[Access]
+        ensures { result.now ≡ self.now.accesses }
+    {
+        self.accesses.as_slice()
+    }
+
+    pub fn len(&self) -> usize
+        ensures { result ≡ length self.now.accesses }
+    {
+        self.accesses.len()
+    }
+
+    /// The access at a place.
+    pub fn at(&self, place: usize) -> Access
+        requires { place < length self.now.accesses }
+        ensures { slice_get self.now.accesses place ≡ Some result }
+    {
+        self.accesses[place]
+    }
+
+    /// Replaces the content of the RAM at power-up.
+    pub fn set_start(&mut self, cells: &[u16])
+        requires { length cells.now ≡ 256 }
+        ensures { self.new ≡ record self.old { start = cells.now } }
+    {
+        self.start.copy_from_slice(cells);
+    }
+
+    /// The word at an address of the RAM at power-up.
+    pub fn start_at(&self, dp: u8) -> u16
+        ensures value { result ≡ slice_index self.now.start dp }
+        ensures start { IsStart self.now.start }
+    {
+        self.start[usize::from(dp)]
+    }
+
+    /// The content of the RAM at power-up.
+    pub fn start(&self) -> &[u16]
+        ensures value { result.now ≡ self.now.start }
+        ensures start { IsStart self.now.start }
+    {
+        &self.start
+    }
+}
