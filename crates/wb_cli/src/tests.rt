@@ -32,15 +32,19 @@ fn image(alloc: Global, words: &[[u8; 3]]) -> Result<Vec<u8>, Fail> {
     Ok(bytes)
 }
 
+/// So many bytes of one value.
+fn repeated(alloc: Global, byte: u8, count: usize) -> Result<Vec<u8>, Fail> {
+    Ok(vec![in alloc; byte; count]?)
+}
+
 /// A shelf with ECHO as `echo`, a script as `script`, and images of wrong lengths.
 fn shelf(alloc: Global, script: &[u8]) -> Result<MemShelf, Fail> {
     let mut shelf = MemShelf::new(alloc);
     let echo = image(alloc, &ECHO)?;
     shelf.add("echo", &echo)?;
     shelf.add("script", script)?;
-    let zeros = vec![in alloc; 0u8; 8193]?;
-    shelf.add("longer", &zeros)?;
-    shelf.add("shorter", &zeros[..8191])?;
+    shelf.add("longer", &repeated(alloc, 0, 8193)?)?;
+    shelf.add("shorter", &repeated(alloc, 0, 8191)?)?;
     shelf.add("empty", b"")?;
     Ok(shelf)
 }
@@ -136,32 +140,33 @@ fn refusals(rt: HostRuntime) -> Result<(), Fail> {
     Ok(())
 }
 
-/// Files of a given length: one of the limit is read, and one byte more is too long.
+/// A file of the limit is read, and one byte more is too long.
 #[test]
 fn long_files(rt: HostRuntime) -> Result<(), Fail> {
     let alloc = rt.alloc();
-    let lines = vec![in alloc; b'\n'; 1_048_577]?;
+    let long = repeated(alloc, b'\n', 1_048_576)?;
     check(
         &rt,
-        rt.alloc(),
+        alloc,
         "run echo script",
-        &lines[..1_048_576],
+        &long,
         Status::Fine,
         b"DONE\n",
     )?;
+    let longer = repeated(alloc, b'\n', 1_048_577)?;
     check(
         &rt,
-        rt.alloc(),
+        alloc,
         "run echo script",
-        &lines,
+        &longer,
         Status::Refused,
         b"FILE 2 TOO LONG\n",
     )?;
     check(
         &rt,
-        rt.alloc(),
+        alloc,
         "run script missing",
-        &lines,
+        &longer,
         Status::Refused,
         b"FILE 1 TOO LONG\n",
     )
@@ -233,20 +238,4 @@ fn failing_puts(rt: HostRuntime) -> Result<(), Fail> {
         assert_eq!(rt; sink.taken(), taken, "{line}");
     }
     Ok(())
-}
-
-#[test]
-fn exit_statuses(rt: HostRuntime) {
-    let numbers = [
-        (Status::Fine, 0),
-        (Status::Shown, 1),
-        (Status::BadWords, 2),
-        (Status::Refused, 3),
-        (Status::ReadFault, 6),
-        (Status::WriteFault, 7),
-        (Status::NoMemory, 8),
-    ];
-    for (status, number) in numbers {
-        assert_eq!(rt; status.number(), number);
-    }
 }
