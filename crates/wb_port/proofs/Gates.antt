@@ -24,10 +24,10 @@ way_goes_on image at here next words w other e =
     record {
       poll = subst (λ (x : ℕ). is_poll image x ≡ true) (sym e) (follow_poll image here w.poll);
       sum =
-        let n : to_gate image here ≡ suc (to_gate image next) = nearer image here w.poll other ∙ ap (λ (x : ℕ). suc (to_gate image x)) (sym e) in
-        let s : words + to_gate image here ≡ to_gate image at = w.sum in
-        omega arith;
-      few = w.few
+          let n : to_gate image here ≡ suc (to_gate image next) = nearer image here w.poll other ∙ ap (λ (x : ℕ). suc (to_gate image x)) (sym e) in
+          let s : words + to_gate image here ≡ to_gate image at = w.sum in
+          omega arith;
+      few = w.few;
     }
 
 pub way_nearer : (image : Image) (at here next words : ℕ) → IsOnTheWay image at here words → is_test (word_of image here) ≡ false → next ≡ follow image here → to_gate image next < to_gate image here
@@ -50,13 +50,15 @@ loop_places image m (suc j) at l = loop_places image m j (follow image at) (turn
 pub one_loop : (image : Image) (at m n : ℕ) → IsWaitLoop image at m → IsWaitLoop image at n → m ≡ n
 one_loop image at m n l k =
     elim (cases_order m n) [
-      inl e ↦ e
-    | inr r ↦ elim r [
-        inl less ↦ absurd (longer m n less l k)
-      | inr more ↦ absurd (longer n m more k l) ] ]
+      | inl e ↦ e
+      | inr r ↦ elim r [
+        | inl less ↦ absurd (longer m n less l k)
+        | inr more ↦ absurd (longer n m more k l)
+      ]
+    ]
   where
-  longer : (x y : ℕ) → x < y → IsWaitLoop image at x → IsWaitLoop image at y → ⊥
-  longer x y less s t = both_ways _ (returned_before image y x at s.some less s.back) (is_loop_of image at y t)
+    longer : (x y : ℕ) → x < y → IsWaitLoop image at x → IsWaitLoop image at y → ⊥
+    longer x y less s t = both_ways _ (returned_before image y x at s.some less s.back) (is_loop_of image at y t)
 
 pub way_short : (image : Image) (at here words : ℕ) → IsOnTheWay image at here words → words < 8
 way_short image at here words w =

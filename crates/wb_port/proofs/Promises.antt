@@ -41,17 +41,18 @@ with-top : (r s sr : ℕ) → s < 2 → top (with_request r s sr) ≡ (r % 2 == 
 with-top r s sr less =
     ap (λ (q : ℕ). q % 2 == 1) (ap (λ (x : ℕ). x / 32768) (regroup _ _ _ _) ∙ whole-part r _ (small (sr / 8192 % 4) s (sr % 4096) (omega arith) less (omega arith)))
   where
-  regroup : (a b c d : ℕ) → a + b + c + d ≡ a + (b + c + d)
-  regroup a b c d = omega arith
-  small : (b c d : ℕ) → b < 4 → c < 2 → d < 4096 → b * 8192 + c * 4096 + d < 32768
-  small b c d bl cl dl = omega arith
+    regroup : (a b c d : ℕ) → a + b + c + d ≡ a + (b + c + d)
+    regroup a b c d = omega arith
+
+    small : (b c d : ℕ) → b < 4 → c < 2 → d < 4096 → b * 8192 + c * 4096 + d < 32768
+    small b c d bl cl dl = omega arith
 
 transferred-top : (single second : Bool) (sr : ℕ) → top (transferred single second sr) ≡ true → top sr ≡ true
 transferred-top true second sr h = absurd (false≢true (sym (with-top 0 (sr / 4096 % 2) sr (omega arith)) ∙ h))
 transferred-top false false sr h = sym (twice (sr / 32768)) ∙ sym (with-top (sr / 32768 % 2) 1 sr (omega arith)) ∙ h
   where
-  twice : (q : ℕ) → (q % 2 % 2 == 1) ≡ (q % 2 == 1)
-  twice q = ap (λ (r : ℕ). r == 1) (let e : q % 2 % 2 ≡ q % 2 = omega arith in e)
+    twice : (q : ℕ) → (q % 2 % 2 == 1) ≡ (q % 2 == 1)
+    twice q = ap (λ (r : ℕ). r == 1) (let e : q % 2 % 2 ≡ q % 2 = omega arith in e)
 transferred-top false true sr h = absurd (false≢true (sym (with-top 0 0 sr (omega arith)) ∙ h))
 
 pub access_raises_nothing : (a : Access) (m : State) → rqm (accessed a m) ≡ true → rqm m ≡ true
@@ -106,18 +107,18 @@ unfolding budget
 first-budget image k d =
     sum _ _ _ (ap open_of (power_off d.start)) (linger-most image (powered d.start))
   where
-  sum : (t o l : ℕ) → o ≡ 1 → l ≤ 7 → (k + 7) * (t + o) + (k - 0) + l ≤ (k + 7) * (t + 2)
-  sum t o l e most = rw e (omega arith)
+    sum : (t o l : ℕ) → o ≡ 1 → l ≤ 7 → (k + 7) * (t + o) + (k - 0) + l ≤ (k + 7) * (t + 2)
+    sum t o l e most = rw e (omega arith)
 
 pub runs_come_to_an_end : RunsComeToAnEnd
 runs_come_to_an_end image k held d = of_ending (ending image k held (suc (rest_of image k (beginning d))) (beginning d) (begins image k held d (beginning d) refl).fit (omega arith))
   where
-  of_ending : IsEnding image k held (beginning d) → ComesToAnEnd image k held d
-  of_ending e =
-      record {
-        end = e.end;
-        count = e.last;
-        ends = e.ends;
-        few = let f = e.few in let b = first-budget image k d in omega arith;
-        one = λ other h. one_end image k held e.last h.0 (beginning d) e.end other e.ends h.1
-      }
+    of_ending : IsEnding image k held (beginning d) → ComesToAnEnd image k held d
+    of_ending e =
+        record {
+          end = e.end;
+          count = e.last;
+          ends = e.ends;
+          few = let f = e.few in let b = first-budget image k d in omega arith;
+          one = λ other h. one_end image k held e.last h.0 (beginning d) e.end other e.ends h.1;
+        }

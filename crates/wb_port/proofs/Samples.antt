@@ -40,7 +40,7 @@ echo_waits image h =
       waits = sym (poll_is_sought image 2) ∙ simp (p2, f2, t2);
       asks = sym (poll_is_sought image 1) ∙ simp p1;
       stays = f2;
-      near = simp t2
+      near = simp t2;
     }
 
 jnrqm_four-plain : is_plain 0x978010 ≡ true
@@ -95,7 +95,7 @@ two_wait image (inl h) =
       first = sym (poll_is_sought image 2) ∙ simp (pa, pb, ta, tb, f, b);
       second = sym (poll_is_sought image 3) ∙ simp (pa, pb, ta, tb, f, b);
       forth = f;
-      back = b
+      back = b;
     }
 two_wait image (inr h) =
     let pa = h.plain_a in let pb = h.plain_b in let ta = h.test_a in let tb = h.test_b in let f = h.forth in let b = h.back in
@@ -103,7 +103,7 @@ two_wait image (inr h) =
       first = sym (poll_is_sought image 2) ∙ simp (pa, pb, ta, tb, f, b);
       second = sym (poll_is_sought image 3) ∙ simp (pa, pb, ta, tb, f, b);
       forth = f;
-      back = b
+      back = b;
     }
 
 out_waits : (image : Image) → BeginsWith image loop_out → TwoWait image
@@ -116,7 +116,8 @@ out_waits image h =
       test_a = ap is_test a ∙ jnrqm_four-test;
       test_b = ap is_test b ∙ jmp_two-test;
       forth = follow_word image 2 _ a ∙ jnrqm_four-follow;
-      back = follow_word image 3 _ b ∙ jmp_two-follow }))
+      back = follow_word image 3 _ b ∙ jmp_two-follow;
+    }))
 
 back_waits : (image : Image) → BeginsWith image loop_back → TwoWait image
 back_waits image h =
@@ -128,7 +129,8 @@ back_waits image h =
       test_a = ap is_test a ∙ nop-test;
       test_b = ap is_test b ∙ jrqm_two-test;
       forth = follow_word image 2 _ a ∙ nop-follow 2;
-      back = follow_word image 3 _ b ∙ jrqm_two-follow 3 }))
+      back = follow_word image 3 _ b ∙ jrqm_two-follow 3;
+    }))
 
 -- an address whose word does nothing, and the one after it
 record IsNothing (image : Image) (at : ℕ) : Type 0 where
@@ -141,7 +143,8 @@ nothing_at image at e =
     record {
       plain = ap is_plain e ∙ nop-plain;
       test = ap is_test e ∙ nop-test;
-      next = follow_word image at 0 e ∙ nop-follow at }
+      next = follow_word image at 0 e ∙ nop-follow at;
+    }
 
 -- an address with a jump on RQM to address 2
 record IsBack (image : Image) (at : ℕ) : Type 0 where
@@ -154,7 +157,8 @@ back_at image at e =
     record {
       plain = ap is_plain e ∙ jrqm_two-plain;
       test = ap is_test e ∙ jrqm_two-test;
-      next = follow_word image at _ e ∙ jrqm_two-follow at }
+      next = follow_word image at _ e ∙ jrqm_two-follow at;
+    }
 
 eight_waits : (image : Image) → BeginsWith image eight → EightWait image
 unfolding to_gate
@@ -170,7 +174,7 @@ eight_waits image h =
     record {
       first = sym (poll_is_sought image 2) ∙ simp (n2.plain, n3.plain, n4.plain, n5.plain, n6.plain, n7.plain, n8.plain, b9.plain, n2.test, n3.test, n4.test, n5.test, n6.test, n7.test, n8.test, b9.test, n2.next, n3.next, n4.next, n5.next, n6.next, n7.next, n8.next, b9.next);
       last = sym (poll_is_sought image 9) ∙ simp (n2.plain, n3.plain, n4.plain, n5.plain, n6.plain, n7.plain, n8.plain, b9.plain, n2.test, n3.test, n4.test, n5.test, n6.test, n7.test, n8.test, b9.test, n2.next, n3.next, n4.next, n5.next, n6.next, n7.next, n8.next, b9.next);
-      far = simp (n2.test, n3.test, n4.test, n5.test, n6.test, n7.test, n8.test, b9.test, n2.next, n3.next, n4.next, n5.next, n6.next, n7.next, n8.next)
+      far = simp (n2.test, n3.test, n4.test, n5.test, n6.test, n7.test, n8.test, b9.test, n2.next, n3.next, n4.next, n5.next, n6.next, n7.next, n8.next);
     }
 
 nine_do_not : (image : Image) → BeginsWith image nine → NineDoNot image
@@ -186,7 +190,7 @@ nine_do_not image h =
     let b10 = back_at image 10 (h 10 (lit< tt)) in
     record {
       first = sym (poll_is_sought image 2) ∙ simp (n2.plain, n3.plain, n4.plain, n5.plain, n6.plain, n7.plain, n8.plain, n9.plain, n2.next, n3.next, n4.next, n5.next, n6.next, n7.next, n8.next, n9.next);
-      last = sym (poll_is_sought image 10) ∙ simp (b10.plain, n2.plain, n3.plain, n4.plain, n5.plain, n6.plain, n7.plain, n8.plain, b10.next, n2.next, n3.next, n4.next, n5.next, n6.next, n7.next, n8.next)
+      last = sym (poll_is_sought image 10) ∙ simp (b10.plain, n2.plain, n3.plain, n4.plain, n5.plain, n6.plain, n7.plain, n8.plain, b10.next, n2.next, n3.next, n4.next, n5.next, n6.next, n7.next, n8.next);
     }
 
 pub worked_loops : (image : Image) → WorkedLoops image
@@ -196,5 +200,5 @@ worked_loops image =
       out_waits = out_waits image;
       back_waits = back_waits image;
       eight_waits = eight_waits image;
-      nine_do_not = nine_do_not image
+      nine_do_not = nine_do_not image;
     }

@@ -9,47 +9,39 @@ ghost use Rattle.wb_port.specs.Worked.{WorkedLoops};
 /// Each address of a wait loop is a poll.
 pub fn loops_are_polls()
     ensures { LoopsArePolls }
-{
-}
+{}
 
 /// A poll begins a wait loop.
 pub fn polls_begin_loops()
     ensures { PollsBeginLoops }
-{
-}
+{}
 
 /// An address is in one wait loop at most.
 pub fn loops_are_one()
     ensures { LoopsAreOne }
-{
-}
+{}
 
 /// A request that stands is asked, at every moment of every schedule.
 pub fn requests_are_asked()
     ensures { RequestsAreAsked }
-{
-}
+{}
 
 /// Events that are applied one by one come to the chip after the schedule.
 pub fn applied_chips_follow()
     ensures { AppliedChipsFollow }
-{
-}
+{}
 
 /// Every run comes to one end, within `(k + 7) * (transfers + 2)` instructions.
 pub fn runs_come_to_an_end()
     ensures { RunsComeToAnEnd }
-{
-}
+{}
 
 /// The points of a trail are those that the held run passes.
 pub fn trails_hold_the_points()
     ensures { TrailsHoldThePoints }
-{
-}
+{}
 
 /// The wait loops of five programs, as the definitions have them.
 pub fn worked_loops()
     ensures { (image : Image) → WorkedLoops image }
-{
-}
+{}
