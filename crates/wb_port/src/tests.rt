@@ -1,0 +1,284 @@
+use crate::{
+    Access, Chip, Dialogue, Event, Letter, Run, Shape, Side, follow, is_poll, points_passed,
+    replay, requested, to_gate, touches,
+};
+use std::alloc::Global;
+use std::process::Abort;
+use std::test::Fail;
+use wb_rom::Image;
+use wb_word::{Addr, Word};
+
+const ECHO: &[u32] = &[
+    0xC10007, 0x000080, 0x97C008, 0x000091, 0x000016, 0x97C014, 0xA00004,
+];
+
+const SLOW: &[u32] = &[
+    0xC10007, 0x000080, 0x97C008, 0x000091, 0x000000, 0x000016, 0x97C018, 0xA00004,
+];
+
+const C3: &[u32] = &[
+    0xC10007, 0x000080, 0x97C008, 0x000091, 0xC030C2, 0x138010, 0x918020, 0x090000, 0x000016,
+    0x97C024, 0xA00004,
+];
+
+const WORK: &[u32] = &[
+    0xC10007, 0x000080, 0x098000, 0x098000, 0x098000, 0x97C014, 0x000091, 0x000016, 0x97C020,
+    0xA00004,
+];
+
+const PEEK: &[u32] = &[
+    0xC10007, 0x000080, 0x000091, 0x97C00C, 0x000016, 0x97C014, 0xA00004,
+];
+
+const FLAG: &[u32] = &[
+    0xC90007, 0x000080, 0x97C008, 0x000091, 0x000016, 0x97C014, 0xA00004,
+];
+
+const WIDE: &[u32] = &[0x000080, 0x97C004, 0x000091, 0x000016, 0x97C010, 0xA00000];
+
+const LOOP: &[u32] = &[
+    0xC10007, 0x000080, 0x978010, 0xA00008, 0x000091, 0x000016, 0x97C018, 0xA00004,
+];
+
+const LOOPN: &[u32] = &[
+    0xC10007, 0x000080, 0x000000, 0x97C008, 0x000091, 0x000016, 0x97C018, 0xA00004,
+];
+
+const EIGHT: &[u32] = &[0xC10007, 0x000080, 0, 0, 0, 0, 0, 0, 0, 0x97C008];
+
+const NINE: &[u32] = &[0xC10007, 0x000080, 0, 0, 0, 0, 0, 0, 0, 0, 0x97C008];
+
+const TWO_TESTS: &[u32] = &[0xC10007, 0x000080, 0x97800C, 0x97C008];
+
+const MEMORY: &[u32] = &[0xC10007, 0x0000F6, 0x97C008, 0xA00004];
+
+const W5A: Access = Access::Write(0x5A);
+
+const R: Access = Access::Read;
+
+const S: Access = Access::Status;
+
+/// How a run of the table ends.
+enum Want {
+    Answered(&'static [u8]),
+    Overrun,
+    Breach(u16),
+}
+
+/// A run: the words of the image, the accesses, the pace, whether it is held, and its end.
+type Case = (&'static [u32], &'static [Access], u16, bool, Want);
+
+const CASES: [Case; 22] = [
+    (ECHO, &[], 2, true, Want::Answered(&[])),
+    (ECHO, &[], 1, true, Want::Overrun),
+    (ECHO, &[], 1, false, Want::Answered(&[])),
+    (ECHO, &[R], 2, true, Want::Overrun),
+    (ECHO, &[R], 2, false, Want::Answered(&[0x00])),
+    (ECHO, &[R], 3, true, Want::Answered(&[0x00])),
+    (ECHO, &[W5A, R], 4, true, Want::Answered(&[0x5A])),
+    (SLOW, &[W5A, R], 4, true, Want::Answered(&[0x5A])),
+    (SLOW, &[W5A, R], 3, false, Want::Overrun),
+    (
+        ECHO,
+        &[Access::Write(0xC3), R],
+        7,
+        false,
+        Want::Answered(&[0xC3]),
+    ),
+    (
+        C3,
+        &[Access::Write(0xC3), R],
+        7,
+        false,
+        Want::Answered(&[0xC4]),
+    ),
+    (C3, &[W5A, R], 7, false, Want::Answered(&[0x5A])),
+    (WORK, &[W5A, R], 6, true, Want::Answered(&[0x5A])),
+    (PEEK, &[], 3, true, Want::Breach(0x002)),
+    (PEEK, &[], 3, false, Want::Answered(&[])),
+    (ECHO, &[S], 2, false, Want::Answered(&[0x84])),
+    (FLAG, &[S], 2, false, Want::Answered(&[0xA4])),
+    (NINE, &[], 9, true, Want::Breach(0x00A)),
+    (NINE, &[], 8, true, Want::Overrun),
+    (EIGHT, &[], 2, true, Want::Answered(&[])),
+    (TWO_TESTS, &[], 9, true, Want::Breach(0x002)),
+    (
+        WIDE,
+        &[S, R, S, Access::Write(0x12), S, R, R],
+        3,
+        true,
+        Want::Answered(&[0x80, 0x00, 0x90, 0x80, 0x00, 0x12]),
+    ),
+];
+
+/// The image with these words, and zeros after them.
+fn image_of(alloc: Global, words: &[u32]) -> Result<Image, Fail> {
+    let mut bytes = Vec::new(alloc);
+    for word in words {
+        bytes.push((*word & 0xFF) as u8)?;
+        bytes.push((*word >> 8 & 0xFF) as u8)?;
+        bytes.push((*word >> 16 & 0xFF) as u8)?;
+    }
+    for _ in bytes.len()..8192 {
+        bytes.push(0)?;
+    }
+    Ok(Image::from_bytes(alloc, &bytes)?)
+}
+
+fn dialogue_of(alloc: Global, accesses: &[Access]) -> Result<Dialogue, Fail> {
+    let mut talk = Dialogue::new(alloc);
+    for access in accesses {
+        talk.push(*access)?;
+    }
+    Ok(talk)
+}
+
+fn address(value: u16) -> Result<Addr, Fail> {
+    Ok(Addr::new(value).ok_or("an address out of range")?)
+}
+
+fn is_wanted(run: &Run, want: &Want) -> bool {
+    match (run, want) {
+        (Run::Answered(replies), Want::Answered(bytes)) => replies.bytes() == *bytes,
+        (Run::Overrun, Want::Overrun) => true,
+        (Run::Breach(at), Want::Breach(value)) => at.value == *value,
+        _ => false,
+    }
+}
+
+/// Executes instructions until a request stands, at most so many.
+fn wait(chip: &mut Chip, image: &Image, most: u32) {
+    for _ in 0..most {
+        if requested(&chip.machine) {
+            return;
+        }
+        chip.apply(image, Event::Step);
+    }
+}
+
+/// The reply of a host that waits so many instructions before each access, to a write of 5A and a read.
+fn lazy_reply(image: &Image, lazy: u32) -> Option<u8> {
+    let mut chip = Chip::reset();
+    wait(&mut chip, image, 20);
+    for _ in 0..lazy {
+        chip.apply(image, Event::Step);
+    }
+    chip.apply(image, Event::Host(W5A));
+    wait(&mut chip, image, 20);
+    for _ in 0..lazy {
+        chip.apply(image, Event::Step);
+    }
+    chip.apply(image, Event::Host(R))
+}
+
+#[test]
+fn runs_end_as_the_rows_say(rt: HostRuntime) -> Result<(), Fail> {
+    let alloc = rt.alloc();
+    for (words, accesses, pace, held, want) in &CASES {
+        let image = image_of(alloc, words)?;
+        let talk = dialogue_of(alloc, accesses)?;
+        assert!(rt; *pace >= 1);
+        let run = replay(alloc, &image, &talk, *pace, *held)?;
+        assert!(rt; is_wanted(&run, want));
+    }
+    Ok(())
+}
+
+#[test]
+fn lazy_hosts_get_what_eager_hosts_get(rt: HostRuntime) -> Result<(), Fail> {
+    let alloc = rt.alloc();
+    for words in [ECHO, WORK, LOOP, LOOPN] {
+        let image = image_of(alloc, words)?;
+        for lazy in 0..9 {
+            assert_eq!(rt; lazy_reply(&image, lazy), Some(0x5A));
+        }
+    }
+    Ok(())
+}
+
+#[test]
+fn a_schedule_with_work_before_the_poll(rt: HostRuntime) -> Result<(), Fail> {
+    let image = image_of(rt.alloc(), WORK)?;
+    let mut chip = Chip::reset();
+    for _ in 0..3 {
+        assert_eq!(rt; chip.apply(&image, Event::Step), None);
+    }
+    assert_eq!(rt; chip.monitor.count, 1);
+    assert_eq!(rt; chip.apply(&image, Event::Host(W5A)), None);
+    assert!(rt; !requested(&chip.machine));
+    wait(&mut chip, &image, 20);
+    assert_eq!(rt; chip.monitor.count, 0);
+    assert!(rt; chip.monitor.asked);
+    assert_eq!(rt; chip.apply(&image, Event::Host(R)), Some(0x5A));
+    assert_eq!(rt; chip.monitor.breach, None);
+    Ok(())
+}
+
+#[test]
+fn the_first_breach_is_kept(rt: HostRuntime) -> Result<(), Fail> {
+    let image = image_of(rt.alloc(), PEEK)?;
+    let mut chip = Chip::power(&[0; 256]);
+    for _ in 0..4 {
+        chip.apply(&image, Event::Step);
+    }
+    assert_eq!(rt; chip.monitor.breach, Some(address(2)?));
+    let mut full = chip.copy();
+    full.monitor.count = u64::MAX;
+    full.apply(&image, Event::Step);
+    assert_eq!(rt; full.monitor.count, u64::MAX);
+    Ok(())
+}
+
+#[test]
+fn polls_and_their_loops(rt: HostRuntime) -> Result<(), Fail> {
+    let alloc = rt.alloc();
+    let rows: [(&[u32], u16, bool); 9] = [
+        (ECHO, 1, false),
+        (ECHO, 2, true),
+        (ECHO, 6, false),
+        (LOOP, 3, true),
+        (LOOPN, 2, true),
+        (EIGHT, 2, true),
+        (NINE, 2, false),
+        (NINE, 10, false),
+        (TWO_TESTS, 2, false),
+    ];
+    for (words, at, poll) in rows {
+        let image = image_of(alloc, words)?;
+        assert_eq!(rt; is_poll(&image, address(at)?), poll);
+    }
+    let image = image_of(alloc, EIGHT)?;
+    let at = address(2)?;
+    assert!(rt; is_poll(&image, at));
+    assert_eq!(rt; to_gate(&image, at), 7);
+    assert_eq!(rt; follow(&image, at), Some(address(3)?));
+    assert_eq!(rt; follow(&image, address(1)?), None);
+    assert!(rt; touches(Word::new(0x97C008).ok_or("a word")?));
+    assert!(rt; !touches(Word::new(0xA00004).ok_or("a word")?));
+    Ok(())
+}
+
+#[test]
+fn points_and_starts(rt: HostRuntime) -> Result<(), Fail> {
+    let alloc = rt.alloc();
+    let image = image_of(alloc, ECHO)?;
+    let points = points_passed(alloc, &image, Side::A, &Dialogue::new(alloc), 2)?;
+    assert_eq!(rt; points.len(), 3);
+    let last = points.at(2);
+    assert_eq!(rt;
+        (last.pc, last.count, last.asked, last.rqm),
+        (2, 0, true, true)
+    );
+    let mut talk = dialogue_of(alloc, &[R])?;
+    let mut cells = [0; 256];
+    cells[0] = 0x12C3;
+    talk.set_start(&cells);
+    let memory = image_of(alloc, MEMORY)?;
+    let run = replay(alloc, &memory, &talk, 3, true)?;
+    assert!(rt; is_wanted(&run, &Want::Answered(&[0xC3])));
+    assert_eq!(rt; (talk.start_at(0), talk.start_at(255)), (0x12C3, 0));
+    let shape = Shape::from_letters(alloc, &[Letter::W, Letter::R])?;
+    assert_eq!(rt; shape.len(), 2);
+    assert_eq!(rt; shape.letter_at(1), Letter::R);
+    Ok(())
+}
