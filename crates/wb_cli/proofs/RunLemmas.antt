@@ -1,7 +1,7 @@
 -- What a run comes to, by the step that stopped it.
-use Rattle.std.proofs.Common.{◌≡◌, ℕ, ◌<◌, ◌≤◌, ◌⊎◌, List, length, Option, Some, None, Result, Ok, Err, Bool, subst, sym, ◌∙◌, ap, arith, inl, inr}
+use Rattle.std.proofs.Common.{◌≡◌, ℕ, ◌<◌, ◌≤◌, List, length, Some, Result, Ok, Err, subst, sym, ◌∙◌, ap, arith, inl, inr}
 use Rattle.wb_base.specs.Faults.{Rose}
-use Rattle.wb_base.specs.Shelf.{Content, HasCause, IsWhole, IsLonger}
+use Rattle.wb_base.specs.Shelf.{Content, HasCause, IsLonger}
 use Rattle.wb_rom.specs.declared.images.Image.{Image}
 use Rattle.wb_rom.specs.ImageBytes.{IsImageOf}
 use Rattle.wb_script.specs.declared.items.Item.{Item}
@@ -13,15 +13,14 @@ use Rattle.wb_cli.specs.declared.statuses.Ending.{Ending}
 use Rattle.wb_cli.specs.declared.statuses.Ending.TheVariants as ending
 use Rattle.wb_cli.specs.declared.statuses.Status.{Status}
 use Rattle.wb_cli.specs.declared.statuses.Status.TheVariants as status
-use Rattle.wb_cli.specs.declared.stops.Place.{Place}
 use Rattle.wb_cli.specs.declared.stops.Place.TheVariants as place
 use Rattle.wb_cli.specs.declared.stops.Stop.{Stop}
 use Rattle.wb_cli.specs.declared.stops.Stop.TheVariants as stop
-use Rattle.wb_cli.specs.Answers.{Answers, IsReply, IsRight, Met, Put, Writes, transcript_ending}
-use Rattle.wb_cli.specs.Complete.{IsRun, IsValidRun, Tells}
-use Rattle.wb_cli.specs.Files.{HasWrongLength, IsScriptCheck, longest}
-use Rattle.wb_cli.specs.Outcome.{ComesTo, HasBadLine, RunFilesTo, RunsItemsTo, RunsTo, Works}
-use Rattle.wb_cli.specs.Plan.{Command, Run, plan_of}
+use Rattle.wb_cli.specs.Answers.{Answers, IsReply, IsRight, Met, Put, transcript_ending}
+use Rattle.wb_cli.specs.Complete.{IsRun, IsValidRun}
+use Rattle.wb_cli.specs.Files.{IsScriptCheck, longest}
+use Rattle.wb_cli.specs.Outcome.{ComesTo, RunFilesTo, RunsItemsTo, RunsTo}
+use Rattle.wb_cli.specs.Plan.{Run, plan_of}
 
 -- a script that isn't one stops the run, once the image is one
 pub script_stops : (bytes text : List ℕ) (image : Image) (refusal : Stop) → IsImageOf bytes image → IsScriptCheck text (Err refusal) → RunsTo bytes text (Err refusal)

@@ -1,7 +1,7 @@
 -- What a call comes to: the first step of the one order that stops it, with its cause, or what the work gave.
 -- The order is: the words are planned; the files are read in the order of the words, each whole; the contents are
 -- checked in the same order; the work is done.
-use Rattle.std.specs.Prelude.{◌≡◌, ◌≢◌, ℕ, List, [], ◌∷◌, length}
+use Rattle.std.specs.Prelude.{ℕ, List, [], ◌∷◌}
 use Rattle.std.specs.declared.option.Option.{Option}
 use Rattle.std.specs.declared.option.Option.TheVariants.{Some, None}
 use Rattle.std.specs.declared.result.Result.{Result}

@@ -1,5 +1,5 @@
 -- what a list of words asks for
-use Rattle.std.specs.Prelude.{◌≡◌, ℕ, Bool, ◌&&◌, ⊤, List, [], ◌∷◌, length, codes, nat_lt, if◌then◌else◌}
+use Rattle.std.specs.Prelude.{ℕ, Bool, ◌&&◌, List, [], ◌∷◌, length, codes, nat_lt, if◌then◌else◌}
 use Rattle.std.specs.Str.{bytes_eq}
 use Rattle.std.specs.declared.option.Option.{Option}
 use Rattle.std.specs.declared.option.Option.TheVariants.{Some, None}

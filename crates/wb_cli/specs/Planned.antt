@@ -1,5 +1,4 @@
 -- the command that a plan of the code stands for
-use Rattle.std.specs.Prelude.{ℕ, List}
 use Rattle.wb_cli.specs.declared.plans.Plan.{Plan}
 use Rattle.wb_cli.specs.declared.plans.Plan.TheVariants as plan
 use Rattle.wb_cli.specs.Plan.{Command, Run}
