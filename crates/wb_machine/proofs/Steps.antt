@@ -16,7 +16,6 @@ use Rattle.wb_word.specs.declared.numbers.Addr.{Addr}
 use Rattle.wb_word.specs.declared.numbers.Nibble.{Nibble}
 use Rattle.wb_word.specs.declared.numbers.Spare.{Spare}
 use Rattle.wb_word.specs.declared.words.OpWord.{OpWord}
-use Rattle.wb_word.specs.declared.words.Instr.{Instr}
 use Rattle.wb_word.specs.declared.words.Instr.TheVariants.{Op, Rt, Jp, Ld}
 use Rattle.wb_rom.specs.declared.images.Image.{Image}
 use Rattle.wb_alu.specs.Operation.{alu_flags, alu_result}
@@ -73,16 +72,20 @@ op_by : (image : Image) (s : State) (p : P) (alu : Alu) (x : Acc) (dpl : Dpl) (m
     → operated (op_word p alu x dpl m rpdec src d) image (counted s) ≡ next_by (Op (op_word p alu x dpl m rpdec src d)) image s
 unfolding operated operated_on counted calculated asking moved pointed next_by regs_after pc_after sp_after rp_after dp_after a_after b_after tr_after trb_after k_after l_after dr_after sr_after so_after flags_a_after flags_b_after ram_after stack_after carried worked worked_flags
 op_by image s p alu acc.A dpl m rpdec src dst.Non = simp (bus_of-counted src image s, computed-counted, computed_flags-counted)
+op_by image s p alu acc.A dpl m rpdec src dst.A = simp (bus_of-counted src image s, computed_flags-counted)
 op_by image s p alu acc.A dpl m rpdec src _ = simp (bus_of-counted src image s, computed-counted, computed_flags-counted)
 op_by image s p alu acc.B dpl m rpdec src dst.Non = simp (bus_of-counted src image s, computed-counted, computed_flags-counted)
+op_by image s p alu acc.B dpl m rpdec src dst.B = simp (bus_of-counted src image s, computed_flags-counted)
 op_by image s p alu acc.B dpl m rpdec src _ = simp (bus_of-counted src image s, computed-counted, computed_flags-counted)
 
 rt_by : (image : Image) (s : State) (p : P) (alu : Alu) (x : Acc) (dpl : Dpl) (m : Nibble) (rpdec : Bool) (src : Src) (d : Dst)
     → returned (operated (op_word p alu x dpl m rpdec src d) image (counted s)) ≡ next_by (Rt (op_word p alu x dpl m rpdec src d)) image s
 unfolding returned operated operated_on counted calculated asking moved pointed next_by regs_after pc_after sp_after rp_after dp_after a_after b_after tr_after trb_after k_after l_after dr_after sr_after so_after flags_a_after flags_b_after ram_after stack_after carried worked worked_flags
 rt_by image s p alu acc.A dpl m rpdec src dst.Non = simp (bus_of-counted src image s, computed-counted, computed_flags-counted)
+rt_by image s p alu acc.A dpl m rpdec src dst.A = simp (bus_of-counted src image s, computed_flags-counted)
 rt_by image s p alu acc.A dpl m rpdec src _ = simp (bus_of-counted src image s, computed-counted, computed_flags-counted)
 rt_by image s p alu acc.B dpl m rpdec src dst.Non = simp (bus_of-counted src image s, computed-counted, computed_flags-counted)
+rt_by image s p alu acc.B dpl m rpdec src dst.B = simp (bus_of-counted src image s, computed_flags-counted)
 rt_by image s p alu acc.B dpl m rpdec src _ = simp (bus_of-counted src image s, computed-counted, computed_flags-counted)
 
 pub next_by-Op : (o : OpWord) (image : Image) (s : State) → next_by (Op o) image s ≡ operated o image (counted s)

@@ -13,7 +13,7 @@ use Rattle.wb_alu.specs.declared.flags.Flags.{Flags}
 use Rattle.wb_rom.specs.declared.images.Image.{Image}
 use Rattle.wb_machine.specs.declared.registers.Regs.{Regs}
 use Rattle.wb_machine.specs.State.{State}
-use Rattle.wb_machine.specs.Next.{bus_of, operand, accumulator, flags_of, other, computed, computed_flags, moved_a, moved_b, moved_tr, moved_trb, moved_so, moved_k, moved_l, moved_ram, asked_by, moved_dr, moved_sr, moved_dp, moved_rp, dp_stepped, rp_stepped, above, below, following, taken}
+use Rattle.wb_machine.specs.Next.{bus_of, computed, computed_flags, moved_a, moved_b, moved_tr, moved_trb, moved_so, moved_k, moved_l, moved_ram, asked_by, moved_dr, moved_sr, moved_dp, moved_rp, dp_stepped, rp_stepped, above, below, following, taken}
 
 -- an accumulator and its flags take the ALU's work
 unfoldable pub calculated : Acc → ℕ → Flags → Regs → Regs

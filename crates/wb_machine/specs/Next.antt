@@ -1,6 +1,6 @@
 -- One instruction. Each register after it has a definition of its own over the state before it;
 -- `next_by` puts them together, and `next` takes the instruction of the word at PC.
-use Rattle.std.specs.Prelude.{ℕ, ◌+◌, ◌*◌, ◌/◌, ◌%◌, ◌^◌, Bool, true, false, not, ◌==◌, if◌then◌else◌, nat_lt, List, slice_index, slice_set, bit_or, bit_xor, ℤ, pos, ◌-ℤ◌, ◌*ℤ◌, unsigned_abs}
+use Rattle.std.specs.Prelude.{ℕ, ◌+◌, ◌*◌, ◌/◌, ◌%◌, ◌^◌, Bool, true, false, not, ◌==◌, if◌then◌else◌, List, slice_index, slice_set, bit_or, bit_xor, pos, ◌*ℤ◌, unsigned_abs}
 use Rattle.std.specs.Int.{int_rem_euclid}
 use Rattle.wb_word.specs.declared.codes.Acc.{Acc}
 use Rattle.wb_word.specs.declared.codes.Acc.TheVariants as acc
@@ -19,7 +19,7 @@ use Rattle.wb_word.specs.declared.words.Instr.{Instr}
 use Rattle.wb_word.specs.declared.words.Instr.TheVariants.{Op, Rt, Jp, Ld}
 use Rattle.wb_word.specs.Encoding.{instr_of}
 use Rattle.wb_alu.specs.declared.flags.Flags.{Flags}
-use Rattle.wb_alu.specs.Operation.{alu_flags, alu_result}
+use Rattle.wb_alu.specs.Operation.{alu_flags, alu_result, signed}
 use Rattle.wb_rom.specs.declared.images.Image.{Image}
 use Rattle.wb_machine.specs.declared.registers.Regs.{Regs}
 use Rattle.wb_machine.specs.State.{State, rqm}
@@ -57,9 +57,6 @@ target (Jp c na spare) = dst.Non
 target (Ld value spare d) = d
 
 -- The ALU: on the accumulator that the word names, with that one's flags and the carry of the other.
-abbrev pub signed : ℕ → ℤ
-signed n = (if nat_lt n 32768 then pos n else (pos n -ℤ pos 65536))
-
 -- twice the signed product, cut to 32 bits
 unfoldable pub product : ℕ → ℕ → ℕ
 product k l = unsigned_abs (int_rem_euclid (signed k *ℤ signed l *ℤ pos 2) (pos (2 ^ 32)))
@@ -91,7 +88,7 @@ computed_flags o bus s =
     alu_flags o.alu (accumulator o.acc s.regs) (operand o.p bus s) (flags_of (other o.acc) s.regs).c
     (flags_of o.acc s.regs)
 
--- what the ALU leaves of one accumulator, where it works on the accumulator `named`
+-- what the ALU leaves of the first accumulator, where it works on the second
 abbrev pub worked_on : {A : Type 0} → Acc → Acc → A → A → A
 worked_on acc.A acc.A work old = work
 worked_on acc.A acc.B work old = old

@@ -1,6 +1,7 @@
 ghost use Rattle.std.specs.Prelude.{◌≡◌, ◌<◌, ◌/◌, ◌%◌, ◌^◌, bit_xor};
 ghost use Rattle.wb_machine.specs.Effects.{asking, calculated, moved, pointed};
-ghost use Rattle.wb_machine.specs.Next.{dp_stepped, merged, moved_ram, low_stepped, product, raised, rp_stepped, signed};
+ghost use Rattle.wb_machine.specs.Next.{dp_stepped, merged, moved_ram, low_stepped, product, raised, rp_stepped};
+ghost use Rattle.wb_alu.specs.Operation.{signed};
 ghost use Rattle.wb_machine.specs.State.{IsRegs};
 
 use crate::registers::Regs;

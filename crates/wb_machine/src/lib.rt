@@ -1,10 +1,17 @@
-//! The µPD77C25 as a table machine.
+//! The µPD77C25 as a table machine: one call executes one instruction word of an image.
+//!
+//! `specs/Next.antt` gives each register after an instruction as a function of the state before it, and
+//! `Machine::step` is exactly that, for every image and every state. `registers` has the registers,
+//! `processor` the machine, `effects` what an instruction does to the registers, in its order, and `jumps`
+//! the conditions. A machine keeps the ranges of its parts. No call takes memory.
 #![tactic(auto)]
 
 mod effects;
 mod jumps;
 mod processor;
 mod registers;
+#[cfg(test)]
+mod tests;
 
 pub use processor::Machine;
 pub use registers::Regs;

@@ -65,7 +65,7 @@ impl Machine {
         self.regs
     }
 
-    /// A word of the return stack, the oldest at level 0.
+    /// A word of the return stack. The next call writes at the level that SP gives.
     pub fn stack_at(&self, level: usize) -> u16
         requires { level < 4 }
         ensures value { result ≡ slice_index self.now.stack level }
@@ -82,7 +82,7 @@ impl Machine {
         self.ram[usize::from(dp)]
     }
 
-    /// What a transfer of the host leaves in DR and SR.
+    /// Replaces DR and SR, as a transfer of the host does.
     pub fn host_set(&mut self, dr: u16, sr: u16)
         ensures value { self.new ≡ record self.old { regs = record self.old.regs { dr = dr; sr = sr } } }
         ensures in_range { IsState self.new }

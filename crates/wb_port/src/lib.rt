@@ -1,4 +1,11 @@
-//! The host port of the µPD77C25 and everything that happens between the chip and its host.
+//! The host port of the µPD77C25, and everything that happens between the chip and its host: wait loops, the
+//! observer beside the chip, schedules, dialogues, the runs of an eager host, and the points that these pass.
+//!
+//! Every call is exactly its definition in `specs/`; `specs/Alike.antt` has the headline, `AnswersAlike`. The laws,
+//! functions that do nothing and whose clauses are the theorems, lead there: `laws_single` on single instructions
+//! and accesses, `laws_moments` on wait loops and on moments of schedules and runs, `laws_runs` on whole runs, and
+//! `laws_schedules` on every schedule. `port` has the host's accesses, `loops` the words and wait loops, `chips` the
+//! observed chip, `talks` and `shapes` dialogues and what fits, `replays` and `trails` the runs and their points.
 #![tactic(auto)]
 
 mod accesses;

@@ -1,13 +1,23 @@
-// A library with one function.
+// The script language of the workbench: a text of host actions, read into a list of items.
+//
+// `read_script` gives exactly the unrolled items of a text that is a script, and else the number of its
+// first bad line. `items.rt` has the items, `scripts.rt` the list of them, `faults.rt` the two answers
+// that are no script; `table.rt` and `fields.rt` read one line, `reader.rt` unrolls the lines.
+// `specs/Statement.antt` says what one line says, `specs/Script.antt` what the lines of a text say together.
 #![tactic(auto)]
 
-ghost use Rattle.std.specs.Prelude.{◌≡◌};
-ghost use Rattle.wb_script.specs.Echo.{echo_of};
+mod faults;
+mod fields;
+mod items;
+mod laws;
+mod reader;
+mod scripts;
+mod table;
+#[cfg(test)]
+mod tests;
 
-// The `ensures` clause is the contract: what `echo` returns is `echo_of` of its argument, a definition
-// in `specs/Echo.antt`, which a caller's clause can cite too.
-pub fn echo(x: usize) -> usize
-    ensures { result ≡ echo_of x }
-{
-    x
-}
+pub use faults::ScriptFault;
+pub use items::Item;
+pub use laws::each_text_has_one_answer;
+pub use reader::read_script;
+pub use scripts::Script;

@@ -1,13 +1,21 @@
-// A library with one function.
+// Runs of host scripts on an image, and what they come to.
+//
+// `run_script` gives the one transcript of a script: a line for each item that was answered, and how the run
+// ended. `play_script` gives the machine too, which made exactly the events of the transcript.
+// `transcript_text` is the text of a transcript. `transcripts.rt` has the types and the text of one line,
+// `course.rt` the run, `texts.rt` the whole text, `laws.rt` that each script has exactly one transcript.
+// `specs/Transcript.antt` relates items and lines, and `specs/Texts.antt` says which bytes a line has.
 #![tactic(auto)]
 
-ghost use Rattle.std.specs.Prelude.{◌≡◌};
-ghost use Rattle.wb_session.specs.Echo.{echo_of};
+mod course;
+mod laws;
+mod texts;
+mod transcripts;
 
-// The `ensures` clause is the contract: what `echo` returns is `echo_of` of its argument, a definition
-// in `specs/Echo.antt`, which a caller's clause can cite too.
-pub fn echo(x: usize) -> usize
-    ensures { result ≡ echo_of x }
-{
-    x
-}
+pub use course::{Session, play_script, run_script};
+pub use laws::each_script_has_one_transcript;
+pub use texts::transcript_text;
+pub use transcripts::{Ended, Line, Lines, Transcript};
+
+#[cfg(test)]
+mod tests;

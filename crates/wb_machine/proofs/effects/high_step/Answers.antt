@@ -1,4 +1,4 @@
-use Rattle.std.proofs.Common.{◌<◌, ◌/◌, ◌^◌, arith}
+use Rattle.std.proofs.Common.{◌/◌, arith}
 use Rattle.std.proofs.lemmas.Nat.{xor_lt}
 use Rattle.wb_machine.proofs.effects.high_step.Goals as goal
 

@@ -1,0 +1,62 @@
+ghost use Rattle.std.specs.Prelude.{◌≡◌};
+ghost use Rattle.wb_cli.specs.Status.{ending_status, status_number};
+
+/// How a call of the program ended.
+#[derive(Clone, Copy, PartialEq, Eq, Debug)]
+pub enum Status {
+    /// The work is done.
+    Fine,
+    /// The script ended early or silent.
+    Shown,
+    /// The words are no command line of this program. No file was read.
+    BadWords,
+    /// A file is too long, or its content is no image or no script.
+    Refused,
+    /// A file couldn't be read.
+    ReadFault,
+    /// The report couldn't be written whole.
+    WriteFault,
+    /// Memory was refused. Nothing was written.
+    NoMemory,
+}
+
+impl Status {
+    /// The exit status of the process.
+    pub fn number(&self) -> u8
+        ensures { result ≡ status_number self.now }
+    {
+        match self {
+            Status::Fine => 0,
+            Status::Shown => 1,
+            Status::BadWords => 2,
+            Status::Refused => 3,
+            Status::ReadFault => 6,
+            Status::WriteFault => 7,
+            Status::NoMemory => 8,
+        }
+    }
+}
+
+/// How a call ends whose report was written whole.
+#[derive(Clone, Copy)]
+pub enum Ending {
+    Fine,
+    Shown,
+    BadWords,
+    Refused,
+    ReadFault,
+}
+
+impl Ending {
+    pub fn status(self) -> Status
+        ensures { result ≡ ending_status self }
+    {
+        match self {
+            Ending::Fine => Status::Fine,
+            Ending::Shown => Status::Shown,
+            Ending::BadWords => Status::BadWords,
+            Ending::Refused => Status::Refused,
+            Ending::ReadFault => Status::ReadFault,
+        }
+    }
+}
