@@ -1,23 +1,21 @@
 -- Each run has exactly one end, and the budget of instructions bounds it.
-use Rattle.std.proofs.Common.{◌≡◌, ◌≢◌, ℕ, zero, suc, ◌+◌, ◌*◌, ◌-◌, ◌<◌, ◌≤◌, ◌⊎◌, inl, inr, Bool, true, false, not, ◌&&◌, ◌||◌, ◌==◌, cond, List, [], ◌∷◌, ◌++◌, length, refl, sym, ◌∙◌, ap, subst, arith, add-one, mul-le-mul_left}
-use Rattle.std.proofs.lemmas.Bool.{eq-eqb, ne_eqb, eqb-false, and_parts, and_from, and_left, and_right, or_from, or_left, or_right, cases_Bool, both_ways, true≢false, false≢true, not_from_true, not_from_false}
+use Rattle.std.proofs.Common.{◌≡◌, ◌≢◌, ℕ, zero, suc, ◌+◌, ◌*◌, ◌<◌, ◌≤◌, inl, inr, Bool, true, false, ◌==◌, cond, List, [], ◌∷◌, length, refl, sym, ◌∙◌, ap, arith, mul-le-mul_left}
+use Rattle.std.proofs.lemmas.Bool.{eqb-false, and_from, and_left, and_right, or_left, or_right, cases_Bool, not_from_true, not_from_false}
 use Rattle.wb_word.specs.Encoding.{addr_at}
 use Rattle.wb_rom.specs.declared.images.Image.{Image}
-use Rattle.wb_machine.specs.State.{State}
-use Rattle.wb_machine.specs.Next.{next}
 use Rattle.wb_port.specs.declared.accesses.Access.{Access}
 use Rattle.wb_port.specs.declared.accesses.Access.TheVariants as access
 use Rattle.wb_port.specs.declared.chips.Chip.{Chip}
 use Rattle.wb_port.specs.declared.runs.Run.{Run}
 use Rattle.wb_port.specs.declared.runs.Run.TheVariants.{Answered, Overrun, Breach}
 use Rattle.wb_port.specs.Port.{rqm, accessed, after_read, after_write}
-use Rattle.wb_port.specs.Wait.{is_poll, raises_request, is_test, word_of}
-use Rattle.wb_port.specs.Monitor.{place, word_at, is_idle, is_breach, is_leaving, observed, stepped}
+use Rattle.wb_port.specs.Wait.{raises_request}
+use Rattle.wb_port.specs.Monitor.{place, word_at, is_breach, is_leaving, observed, stepped}
 use Rattle.wb_port.specs.Run.{Moment, Turn, Gives, Steps, Ends, give, go, is_waiting, turn, turn_at, goes_on, turns, executed, instructions}
-use Rattle.wb_port.specs.Talk.{transfers, kinds}
+use Rattle.wb_port.specs.Talk.{transfers}
 use Rattle.wb_port.proofs.Single.{next_keeps}
 use Rattle.wb_port.proofs.Turning.{stepped_count}
-use Rattle.wb_port.proofs.Measure.{IsSound, linger, open_of, budget, lighter, stepped_machine, after_asked}
+use Rattle.wb_port.proofs.Measure.{IsSound, linger, open_of, budget, lighter, stepped_machine}
 
 -- what a turn is, with what led to it
 pub data View (image : Image) (k : ℕ) (held : Bool) (m : Moment) : Turn → Type 0 where

@@ -1,19 +1,14 @@
 -- How many instructions a run may still execute, and that each of its turns lowers that or gives an access.
-use Rattle.std.proofs.Common.{◌≡◌, ◌≢◌, ℕ, zero, suc, ◌+◌, ◌*◌, ◌-◌, ◌<◌, ◌≤◌, ◌⊎◌, inl, inr, Bool, true, false, not, ◌&&◌, ◌||◌, ◌==◌, cond, List, [], ◌∷◌, ◌++◌, length, refl, sym, ◌∙◌, ap, subst, arith, add-one, mul-le-mul_left}
-use Rattle.std.proofs.lemmas.Bool.{eq-eqb, ne_eqb, eqb-false, and_parts, and_from, and_left, and_right, or_from, or_left, or_right, cases_Bool, both_ways, true≢false, false≢true, not_from_true, not_from_false, cond-true, cond-false}
+use Rattle.std.proofs.Common.{◌≡◌, ℕ, suc, ◌+◌, ◌*◌, ◌-◌, ◌<◌, ◌≤◌, inl, inr, Bool, true, false, not, ◌&&◌, ◌||◌, refl, sym, ◌∙◌, ap, subst, arith}
+use Rattle.std.proofs.lemmas.Bool.{and_parts, and_from, and_left, and_right, or_from, cases_Bool, both_ways, true≢false, false≢true, not_from_true}
 use Rattle.wb_rom.specs.declared.images.Image.{Image}
-use Rattle.wb_machine.specs.State.{State}
 use Rattle.wb_machine.specs.Next.{next}
-use Rattle.wb_port.specs.declared.accesses.Access.{Access}
-use Rattle.wb_port.specs.declared.accesses.Access.TheVariants as access
 use Rattle.wb_port.specs.declared.chips.Chip.{Chip}
-use Rattle.wb_port.specs.declared.chips.Monitor.{Monitor}
-use Rattle.wb_port.specs.declared.runs.Run.{Run}
-use Rattle.wb_port.specs.Port.{rqm, accessed, after_read, after_write}
-use Rattle.wb_port.specs.Wait.{is_plain, is_test, is_poll, follow, to_gate, touches, raises_request, word_of}
+use Rattle.wb_port.specs.Port.{rqm}
+use Rattle.wb_port.specs.Wait.{is_test, is_poll, follow, to_gate, raises_request}
 use Rattle.wb_port.specs.Monitor.{place, word_at, is_idle, is_breach, is_leaving, observed, stepped, count_after}
-use Rattle.wb_port.specs.Run.{Moment, Turn, Gives, Steps, Ends, give, go, is_waiting, turn, turn_at}
-use Rattle.wb_port.specs.Talk.{transfers, kinds}
+use Rattle.wb_port.specs.Run.{Moment, is_waiting}
+use Rattle.wb_port.specs.Talk.{transfers}
 use Rattle.wb_port.proofs.Single.{next_keeps, next_raises, raising_touches, plain_calm, next_follows}
 use Rattle.wb_port.proofs.Circles.{follow_poll, poll_plain, gate_near, nearer}
 

@@ -1,18 +1,16 @@
 -- The points of a trail are those that the held run passes.
-use Rattle.std.proofs.Common.{◌≡◌, ◌≢◌, ◌↔◌, ℕ, zero, suc, ◌+◌, ◌-◌, ◌<◌, ◌≤◌, ◌⊎◌, inl, inr, Bool, true, false, List, [], ◌∷◌, ◌++◌, length, refl, sym, ◌∙◌, ap, subst, arith, append-nil}
+use Rattle.std.proofs.Common.{◌≡◌, ℕ, zero, suc, ◌+◌, ◌-◌, ◌<◌, ◌≤◌, ◌⊎◌, inl, inr, Bool, true, List, [], ◌∷◌, ◌++◌, refl, sym, ◌∙◌, ap, subst, arith, append-nil}
 use Rattle.std.specs.Prelude.{Contains}
-use Rattle.std.proofs.lemmas.List.Elements.{Contains-append_left, Contains-append_right, Contains-append_cases}
+use Rattle.std.proofs.lemmas.List.Elements.{Contains-append_right, Contains-append_cases}
 use Rattle.std.proofs.lemmas.Bool.{cases_lt}
 use Rattle.wb_word.specs.declared.sides.Side.{Side}
 use Rattle.wb_rom.specs.declared.images.Image.{Image}
-use Rattle.wb_port.specs.declared.accesses.Access.{Access}
 use Rattle.wb_port.specs.declared.accesses.Access.TheVariants as access
 use Rattle.wb_port.specs.declared.accesses.Kind.{Kind}
 use Rattle.wb_port.specs.declared.points.Point.{Point}
-use Rattle.wb_port.specs.declared.runs.Run.{Run}
-use Rattle.wb_port.specs.Run.{Moment, Turn, Gives, Steps, Ends, give, turn, goes_on, turns, beginning}
-use Rattle.wb_port.specs.Talk.{Talk, kinds}
-use Rattle.wb_port.specs.Points.{Passes, point_of, points_of, points_after, IsTrail}
+use Rattle.wb_port.specs.Run.{Moment, Turn, turn, goes_on, turns, beginning}
+use Rattle.wb_port.specs.Talk.{kinds}
+use Rattle.wb_port.specs.Points.{Passes, point_of, points_of, points_after}
 use Rattle.wb_port.specs.Endings.{TrailsHoldThePoints}
 use Rattle.wb_port.proofs.Ends.{View, gives, steps, ends, view, stays}
 use Rattle.wb_port.proofs.Passing.{kinds-append}

@@ -1,7 +1,6 @@
 -- A held replay notes the points of its run.
-use Rattle.std.proofs.Common.{◌≡◌, ◌≢◌, ℕ, zero, suc, ◌+◌, ◌<◌, ◌≤◌, Bool, true, false, List, [], ◌∷◌, ◌++◌, length, take, get_or, refl, sym, ◌∙◌, ap, subst, arith, append_assoc, append-nil}
+use Rattle.std.proofs.Common.{◌≡◌, ℕ, zero, suc, ◌+◌, ◌<◌, true, List, [], ◌∷◌, ◌++◌, length, take, get_or, refl, sym, ◌∙◌, ap, subst, append_assoc, append-nil}
 use Rattle.std.proofs.lemmas.List.{take_more}
-use Rattle.std.proofs.lemmas.Option.{slice_get-get_or}
 use Rattle.wb_word.specs.declared.sides.Side.{Side}
 use Rattle.wb_rom.specs.declared.images.Image.{Image}
 use Rattle.wb_port.specs.declared.accesses.Access.{Access}
@@ -12,12 +11,11 @@ use Rattle.wb_port.proofs.Ends.{rest_of}
 use Rattle.wb_port.specs.declared.points.Point.{Point}
 use Rattle.wb_port.specs.declared.replays.Turned.{Turned}
 use Rattle.wb_port.specs.declared.replays.Turned.TheVariants.{Gave, Stepped, Ended}
-use Rattle.wb_port.specs.declared.runs.Run.{Run}
-use Rattle.wb_port.specs.Run.{Moment, Turn, Gives, Steps, Ends, turn, goes_on, turns, beginning}
+use Rattle.wb_port.specs.Run.{Moment, Turn, turn, goes_on, turns, beginning}
 use Rattle.wb_port.specs.Talk.{Talk, kinds}
 use Rattle.wb_port.specs.Points.{point_of, points_of, points_after, IsTrail}
 use Rattle.wb_port.specs.Replay.{IsTurned, noted, run_of}
-use Rattle.wb_port.proofs.Playing.{IsSoFar, IsNext, goes_next, Lasts, begins}
+use Rattle.wb_port.proofs.Playing.{IsSoFar, goes_next, Lasts, begins}
 
 pub kinds-append : (xs ys : List Access) → kinds (xs ++ ys) ≡ kinds xs ++ kinds ys
 kinds-append [] ys = refl

@@ -1,5 +1,5 @@
 -- A replay follows the turns of its run.
-use Rattle.std.proofs.Common.{◌≡◌, ◌≢◌, ℕ, zero, suc, ◌+◌, ◌-◌, ◌<◌, ◌≤◌, Bool, true, false, ◌==◌, List, [], ◌∷◌, length, refl, sym, ◌∙◌, ap, subst, arith}
+use Rattle.std.proofs.Common.{◌≡◌, ◌≢◌, ℕ, zero, suc, ◌<◌, Bool, true, false, List, ◌∷◌, length, refl, sym, ◌∙◌, ap, subst, arith}
 use Rattle.std.proofs.lemmas.Bool.{false≢true}
 use Rattle.wb_rom.specs.declared.images.Image.{Image}
 use Rattle.wb_machine.specs.State.{power}
@@ -11,10 +11,8 @@ use Rattle.wb_port.specs.declared.runs.Run.{Run}
 use Rattle.wb_port.specs.Port.{rqm}
 use Rattle.wb_port.specs.Monitor.{stepped, is_breach}
 use Rattle.wb_port.specs.Run.{Moment, Turn, Gives, Steps, Ends, give, is_waiting, turn, goes_on, turns, beginning}
-use Rattle.wb_port.specs.Schedule.{powered}
 use Rattle.wb_port.specs.Talk.{Talk}
 use Rattle.wb_port.specs.Replay.{IsTurned}
-use Rattle.wb_port.proofs.Measure.{IsSound, budget}
 use Rattle.wb_port.proofs.Ends.{View, gives, steps, ends, view, IsOngoing, rest_of, given_budget, stepped_budget, given_ongoing, stepped_ongoing}
 
 -- the moment is one of the dialogue's run

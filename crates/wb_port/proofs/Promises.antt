@@ -1,6 +1,6 @@
 -- The laws on loops, schedules and runs.
-use Rattle.std.proofs.Common.{◌≡◌, ◌≢◌, ℕ, zero, suc, ◌+◌, ◌*◌, ◌-◌, ◌/◌, ◌%◌, ◌==◌, ◌^◌, ◌<◌, ◌≤◌, min, ◌⊎◌, inl, inr, Bool, true, false, not, ◌&&◌, ◌||◌, List, [], ◌∷◌, ◌++◌, length, refl, sym, ◌∙◌, ap, subst, arith, add-one}
-use Rattle.std.proofs.lemmas.Bool.{false≢true, true≢false}
+use Rattle.std.proofs.Common.{◌≡◌, ℕ, suc, ◌+◌, ◌*◌, ◌-◌, ◌/◌, ◌%◌, ◌==◌, ◌^◌, ◌<◌, ◌≤◌, min, Bool, true, false, List, [], ◌∷◌, refl, sym, ◌∙◌, ap, arith}
+use Rattle.std.proofs.lemmas.Bool.{false≢true}
 use Rattle.wb_rom.specs.declared.images.Image.{Image}
 use Rattle.wb_machine.specs.State.{State}
 use Rattle.wb_port.specs.declared.accesses.Access.{Access}
@@ -8,19 +8,17 @@ use Rattle.wb_port.specs.declared.accesses.Access.TheVariants as access
 use Rattle.wb_port.specs.declared.accesses.Event.{Event}
 use Rattle.wb_port.specs.declared.accesses.Event.TheVariants as event
 use Rattle.wb_port.specs.declared.chips.Chip.{Chip}
-use Rattle.wb_port.specs.declared.chips.Monitor.{Monitor}
-use Rattle.wb_port.specs.declared.runs.Run.{Run}
-use Rattle.wb_port.specs.Port.{rqm, accessed, after_read, after_write, ported, transferred, with_request, drc, drs}
-use Rattle.wb_port.specs.Wait.{is_loop, is_poll, follow_times, raises_request}
-use Rattle.wb_port.specs.Monitor.{capped, capped_monitor, stepped, observed, count_after, is_idle, is_breach, is_leaving, place, word_at}
+use Rattle.wb_port.specs.Port.{rqm, accessed, after_read, after_write, transferred, with_request, drc, drs}
+use Rattle.wb_port.specs.Wait.{raises_request}
+use Rattle.wb_port.specs.Monitor.{capped, stepped, observed, count_after, is_idle, is_breach, is_leaving, word_at}
 use Rattle.wb_port.specs.Schedule.{powered, applied, after}
 use Rattle.wb_port.specs.Talk.{Talk, transfers}
-use Rattle.wb_port.specs.Run.{Moment, turn, turns, instructions, beginning, Ends, EndsAs}
-use Rattle.wb_port.specs.Endings.{IsLoopOf, LoopsArePolls, PollsBeginLoops, LoopsAreOne, RequestsAreAsked, applied_each, AppliedChipsFollow, ComesToAnEnd, RunsComeToAnEnd}
-use Rattle.wb_port.proofs.Circles.{IsWaitLoop, loop_of, is_loop_of, poll_loop}
+use Rattle.wb_port.specs.Run.{beginning}
+use Rattle.wb_port.specs.Endings.{LoopsArePolls, PollsBeginLoops, LoopsAreOne, RequestsAreAsked, AppliedChipsFollow, ComesToAnEnd, RunsComeToAnEnd}
+use Rattle.wb_port.proofs.Circles.{loop_of, is_loop_of, poll_loop}
 use Rattle.wb_port.proofs.Gates.{loop_places, one_loop}
-use Rattle.wb_port.proofs.Measure.{IsSound, budget, linger, open_of, linger-most}
-use Rattle.wb_port.proofs.Ends.{IsOngoing, IsEnding, rest_of, ending, one_end, stepped_sound}
+use Rattle.wb_port.proofs.Measure.{IsSound, budget, open_of, linger-most}
+use Rattle.wb_port.proofs.Ends.{IsEnding, rest_of, ending, one_end, stepped_sound}
 use Rattle.wb_port.proofs.Playing.{begins, power_off}
 use Rattle.wb_port.proofs.Single.{top, whole-part}
 

@@ -1,10 +1,10 @@
 -- The wait loops of the worked programs, computed from the definitions.
-use Rattle.std.proofs.Common.{◌≡◌, ◌≢◌, ℕ, zero, suc, ◌+◌, ◌<◌, ◌≤◌, Bool, true, false, ◌==◌, List, [], ◌∷◌, refl, sym, ◌∙◌, ap, subst, lit<, ◌⊎◌, inl, inr, ◌%◌}
+use Rattle.std.proofs.Common.{◌≡◌, ℕ, ◌+◌, Bool, true, false, refl, sym, ◌∙◌, ap, lit<, ◌⊎◌, inl, inr, ◌%◌}
 use Rattle.wb_word.specs.Encoding.{instr_of}
 use Rattle.wb_rom.specs.declared.images.Image.{Image}
-use Rattle.wb_port.specs.Wait.{is_plain, is_test, instr_follow, word_of, follow, is_poll, to_gate}
+use Rattle.wb_port.specs.Wait.{is_plain, is_test, instr_follow, word_of, follow, to_gate}
 use Rattle.wb_port.specs.Worked.{BeginsWith, echo, loop_out, loop_back, eight, nine, EchoWaits, TwoWait, EightWait, NineDoNot, WorkedLoops}
-use Rattle.wb_port.proofs.Walks.{sought, poll_is_sought}
+use Rattle.wb_port.proofs.Walks.{poll_is_sought}
 
 jrqm_two-test : is_test 0x97C008 ≡ true
 unfolding is_test instr_of

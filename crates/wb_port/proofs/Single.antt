@@ -1,22 +1,20 @@
 -- Facts on single steps of the machine: who raises a request, and where a chip goes from a plain word.
-use Rattle.std.proofs.Common.{◌≡◌, ◌≢◌, ℕ, zero, suc, ◌+◌, ◌-◌, ◌*◌, ◌/◌, ◌%◌, ◌<◌, ◌≤◌, ◌⊎◌, inl, inr, Bool, true, false, not, ◌&&◌, ◌||◌, ◌==◌, List, [], ◌∷◌, refl, sym, ◌∙◌, ap, subst, arith, cond, nat_le}
-use Rattle.std.proofs.lemmas.Bool.{eqb-true, or_parts, or_cases, or_left, or_right, both_ways, true≢false, false≢true, le-leb, leb-true, leb-false, lt-leb, cases_Bool}
-use Rattle.std.specs.Cmp.{both_ways as same_bool}
+use Rattle.std.proofs.Common.{◌≡◌, ℕ, ◌+◌, ◌*◌, ◌/◌, ◌%◌, ◌<◌, ◌⊎◌, inl, inr, Bool, true, false, ◌||◌, ◌==◌, refl, sym, ◌∙◌, ap, subst, arith}
+use Rattle.std.proofs.lemmas.Bool.{eqb-true, or_parts, or_cases, or_left, or_right, true≢false, false≢true, cases_Bool}
 use Rattle.wb_word.specs.Encoding.{instr_of}
 use Rattle.wb_word.specs.declared.codes.Src.{Src}
 use Rattle.wb_word.specs.declared.codes.Src.TheVariants as src
 use Rattle.wb_word.specs.declared.codes.Dst.{Dst}
 use Rattle.wb_word.specs.declared.codes.Dst.TheVariants as dst
-use Rattle.wb_word.specs.declared.conditions.Cond.{Cond}
 use Rattle.wb_word.specs.declared.conditions.Cond.TheVariants as cond
 use Rattle.wb_word.specs.declared.words.Instr.{Instr}
 use Rattle.wb_word.specs.declared.words.Instr.TheVariants.{Op, Rt, Jp, Ld}
 use Rattle.wb_rom.specs.declared.images.Image.{Image}
 use Rattle.wb_machine.specs.State.{State}
-use Rattle.wb_machine.specs.Next.{next, instr_at, asked_by, asked, target, carried, raised, merged, moved_sr, sr_after, pc_after, taken, following}
+use Rattle.wb_machine.specs.Next.{next, instr_at, asked_by, carried, raised, merged, moved_sr, sr_after, pc_after, taken}
 use Rattle.wb_machine.proofs.ByRegister.{next-sr, next-pc}
 use Rattle.wb_port.specs.Port.{rqm}
-use Rattle.wb_port.specs.Wait.{src_touches, dst_touches, src_raises, dst_raises, cond_tests, instr_touches, instr_raises, instr_tests, instr_is_plain_jump, instr_follow, touches, raises_request, is_test, is_plain, follow, word_of}
+use Rattle.wb_port.specs.Wait.{src_touches, dst_touches, src_raises, dst_raises, instr_touches, instr_raises, instr_tests, instr_is_plain_jump, instr_follow, touches, raises_request, is_test, is_plain, follow, word_of}
 
 -- bit 15 of a status register
 abbrev pub top : ℕ → Bool

@@ -1,5 +1,5 @@
 -- What single words do, over the instructions that they are.
-use Rattle.std.proofs.Common.{◌≡◌, ◌≢◌, ℕ, ◌+◌, ◌%◌, ◌||◌, Bool, true, false, refl, ap, ◌∙◌, sym, subst, Option, ◌<◌, arith, replicate}
+use Rattle.std.proofs.Common.{◌≡◌, ◌≢◌, ℕ, ◌+◌, ◌%◌, refl, ap, ◌∙◌, subst, Option, ◌<◌, arith, replicate}
 use Rattle.std.specs.Prelude.{IfSome}
 use Rattle.std.proofs.lemmas.Bool.{ne_eqb}
 use Rattle.wb_rom.specs.declared.images.Image.{Image}

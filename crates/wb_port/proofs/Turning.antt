@@ -1,5 +1,5 @@
 -- What a turn is, by what the chip and the accesses that are left are.
-use Rattle.std.proofs.Common.{◌≡◌, ◌≢◌, ℕ, zero, suc, ◌+◌, ◌-◌, ◌^◌, ◌<◌, ◌≤◌, min, Bool, true, false, not, ◌&&◌, ◌||◌, ◌==◌, List, [], ◌∷◌, ◌++◌, length, take, drop, refl, sym, ◌∙◌, ap, subst, arith, add-one, Some, ◌⊎◌, inl, inr}
+use Rattle.std.proofs.Common.{◌≡◌, ◌≢◌, ℕ, ◌+◌, ◌-◌, ◌^◌, ◌<◌, ◌≤◌, min, Bool, true, false, List, [], ◌∷◌, ◌++◌, length, take, drop, refl, sym, ◌∙◌, ap, subst, arith, add-one, Some, inl, inr}
 use Rattle.std.specs.Prelude.{slice_get}
 use Rattle.std.specs.Option.{option_to_list}
 use Rattle.std.proofs.lemmas.Bool.{eq-eqb, ne_eqb, true≢false, false≢true}
@@ -11,13 +11,12 @@ use Rattle.wb_word.specs.Encoding.{addr_at}
 use Rattle.wb_rom.specs.declared.images.Image.{Image}
 use Rattle.wb_port.specs.declared.accesses.Access.{Access}
 use Rattle.wb_port.specs.declared.chips.Chip.{Chip}
-use Rattle.wb_port.specs.declared.runs.Run.{Run}
 use Rattle.wb_port.specs.declared.runs.Run.TheVariants.{Answered, Overrun, Breach}
 use Rattle.wb_port.specs.declared.replays.Progress.{Progress}
 use Rattle.wb_port.specs.Port.{rqm, accessed, access_reply}
 use Rattle.wb_port.specs.Monitor.{place, is_breach, is_idle, observed, stepped, capped, count_after}
 use Rattle.wb_port.specs.Wait.{raises_request, word_of}
-use Rattle.wb_port.specs.Run.{Moment, Turn, Gives, Steps, Ends, give, go, is_waiting, turn, turn_at}
+use Rattle.wb_port.specs.Run.{Moment, Turn, Gives, Steps, Ends, give, go, is_waiting, turn}
 use Rattle.wb_port.specs.Talk.{Talk}
 use Rattle.wb_port.specs.Replay.{moment_of, IsTurned}
 use Rattle.wb_port.specs.declared.replays.Turned.{Turned}

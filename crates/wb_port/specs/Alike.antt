@@ -1,5 +1,5 @@
 -- The headline: two images answer alike, for any two schedules that hold the same talk.
-use Rattle.std.specs.Prelude.{◌≡◌, ℕ, Bool, true, false, None, List}
+use Rattle.std.specs.Prelude.{◌≡◌, ℕ, true, false, None, List}
 use Rattle.wb_rom.specs.declared.images.Image.{Image}
 use Rattle.wb_port.specs.declared.accesses.Event.{Event}
 use Rattle.wb_port.specs.declared.accesses.Letter.{Letter}

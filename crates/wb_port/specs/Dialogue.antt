@@ -1,7 +1,5 @@
 -- Which dialogues a comparison speaks of: at most n data transfers, of a shape, with the power given.
 use Rattle.std.specs.Prelude.{◌≡◌, ℕ, ◌+◌, ◌*◌, ◌≤◌, List, [], ◌∷◌, All, replicate}
-use Rattle.wb_port.specs.declared.accesses.Access.{Access}
-use Rattle.wb_port.specs.declared.accesses.Access.TheVariants as access
 use Rattle.wb_port.specs.declared.accesses.Kind.{Kind}
 use Rattle.wb_port.specs.declared.accesses.Kind.TheVariants as kind
 use Rattle.wb_port.specs.declared.accesses.Letter.{Letter}

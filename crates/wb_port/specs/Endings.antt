@@ -1,5 +1,5 @@
 -- What is true of every wait loop, every schedule and every run: loops, requests, counts and ends.
-use Rattle.std.specs.Prelude.{◌≡◌, ◌↔◌, ℕ, suc, ◌+◌, ◌*◌, ◌<◌, ◌≤◌, Bool, true, List, [], ◌∷◌, Contains}
+use Rattle.std.specs.Prelude.{◌≡◌, ◌↔◌, ℕ, ◌+◌, ◌*◌, ◌<◌, ◌≤◌, Bool, true, List, [], ◌∷◌, Contains}
 use Rattle.wb_word.specs.declared.sides.Side.{Side}
 use Rattle.wb_rom.specs.declared.images.Image.{Image}
 use Rattle.wb_port.specs.declared.accesses.Event.{Event}

@@ -1,6 +1,6 @@
 -- What an observer keeps beside the chip: whether a request is asked, how many instructions have been
 -- executed since the last request, and the first breach.
-use Rattle.std.specs.Prelude.{ℕ, ◌+◌, ◌-◌, ◌^◌, min, Bool, true, false, not, ◌&&◌, ◌||◌, if◌then◌else◌, Option, Some, None}
+use Rattle.std.specs.Prelude.{ℕ, ◌+◌, ◌-◌, ◌^◌, min, Bool, true, false, not, ◌&&◌, ◌||◌, Option, Some, None}
 use Rattle.wb_word.specs.Encoding.{addr_at}
 use Rattle.wb_word.specs.declared.numbers.Addr.{Addr}
 use Rattle.wb_rom.specs.declared.images.Image.{Image}

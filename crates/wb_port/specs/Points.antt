@@ -1,5 +1,5 @@
 -- Points: what an explorer tells apart of the moments of held runs.
-use Rattle.std.specs.Prelude.{◌≡◌, ◌≢◌, ℕ, zero, suc, Bool, true, false, List, [], ◌∷◌, ◌++◌, All, AllPairs, Contains}
+use Rattle.std.specs.Prelude.{◌≡◌, ◌≢◌, ℕ, zero, suc, true, List, [], ◌∷◌, ◌++◌, All, AllPairs, Contains}
 use Rattle.wb_word.specs.declared.sides.Side.{Side}
 use Rattle.wb_word.specs.declared.sides.Side.TheVariants as side
 use Rattle.wb_rom.specs.declared.images.Image.{Image}

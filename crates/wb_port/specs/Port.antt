@@ -1,5 +1,5 @@
 -- The host port: what an access of the host gives and what it leaves, over the state of the machine.
-use Rattle.std.specs.Prelude.{ℕ, Bool, true, false, not, ◌+◌, ◌*◌, ◌/◌, ◌%◌, ◌==◌, if◌then◌else◌, Option, Some, None}
+use Rattle.std.specs.Prelude.{ℕ, Bool, true, false, ◌+◌, ◌*◌, ◌/◌, ◌%◌, ◌==◌, Option, Some, None}
 use Rattle.wb_machine.specs.State.{State}
 use Rattle.wb_machine.specs.State.{rqm as is_request}
 use Rattle.wb_port.specs.declared.accesses.Access.{Access}

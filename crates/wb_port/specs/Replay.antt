@@ -1,6 +1,5 @@
 -- How a replay keeps a moment of a run: it counts the accesses that were given.
 use Rattle.std.specs.Prelude.{◌≡◌, ℕ, List, [], ◌∷◌, take, drop}
-use Rattle.wb_rom.specs.declared.images.Image.{Image}
 use Rattle.wb_port.specs.declared.runs.Run.{Run}
 use Rattle.wb_port.specs.declared.runs.Run.TheVariants as run
 use Rattle.wb_port.specs.declared.replays.End.{End}

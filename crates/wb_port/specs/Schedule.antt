@@ -1,5 +1,5 @@
 -- Schedules: any finite list of whole instructions and accesses of the host, in any order.
-use Rattle.std.specs.Prelude.{◌≡◌, ℕ, Bool, true, false, if◌then◌else◌, Option, Some, None, List, [], ◌∷◌, ◌++◌}
+use Rattle.std.specs.Prelude.{◌≡◌, ℕ, true, false, if◌then◌else◌, Option, None, List, [], ◌∷◌, ◌++◌}
 use Rattle.std.specs.Option.{option_to_list}
 use Rattle.wb_rom.specs.declared.images.Image.{Image}
 use Rattle.wb_machine.specs.State.{power}

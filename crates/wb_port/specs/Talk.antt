@@ -1,5 +1,5 @@
 -- A dialogue as contracts see it.
-use Rattle.std.specs.Prelude.{◌≡◌, ℕ, ◌+◌, ◌<◌, ◌^◌, List, [], ◌∷◌, length, All}
+use Rattle.std.specs.Prelude.{◌≡◌, ℕ, ◌<◌, List, [], ◌∷◌, length, All}
 use Rattle.wb_port.specs.declared.accesses.Access.{Access}
 use Rattle.wb_port.specs.declared.accesses.Access.TheVariants as access
 use Rattle.wb_port.specs.declared.accesses.Kind.{Kind}

@@ -1,6 +1,5 @@
-use Rattle.std.proofs.Common.{◌≡◌, ◌∙◌, ap, sym}
-use Rattle.wb_word.specs.Encoding.{instr_of}
-use Rattle.wb_port.specs.Wait.{is_plain, follow, word_of}
+use Rattle.std.proofs.Common.{◌∙◌, ap}
+use Rattle.wb_port.specs.Wait.{is_plain}
 use Rattle.wb_port.proofs.Steady.{jump_is_plain, jump_leads}
 use Rattle.wb_port.proofs.loops.follow.Goals as goal
 

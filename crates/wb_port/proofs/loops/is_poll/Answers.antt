@@ -1,4 +1,4 @@
-use Rattle.std.proofs.Common.{◌≡◌, ◌∙◌, ap, sym, arith, cond, Bool, true, false, refl}
+use Rattle.std.proofs.Common.{◌≡◌, ◌∙◌, ap, sym, arith, cond, Bool, true, false}
 use Rattle.std.proofs.lemmas.Bool.{eqb-false}
 use mir.Val.{bool_byte}
 use Rattle.wb_port.specs.Wait.{is_test}

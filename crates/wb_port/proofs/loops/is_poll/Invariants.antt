@@ -1,4 +1,4 @@
-use Rattle.std.proofs.Common.{◌≡◌, ℕ, ◌-◌, ◌≤◌}
+use Rattle.std.proofs.Common.{◌≡◌, ◌-◌, ◌≤◌}
 use Rattle.wb_port.specs.Wait.{is_poll}
 use Rattle.wb_port.proofs.Walks.{sought}
 use Rattle.wb_port.proofs.loops.is_poll.Given as goal

@@ -1,4 +1,4 @@
-use Rattle.std.proofs.Common.{◌≡◌, ◌∙◌, ap}
+use Rattle.std.proofs.Common.{◌∙◌, ap}
 use Rattle.wb_port.specs.Wait.{instr_tests, is_test}
 use Rattle.wb_port.proofs.loops.is_test.Goals as goal
 

@@ -1,4 +1,4 @@
-use Rattle.std.proofs.Common.{◌≡◌, ◌∙◌, ap}
+use Rattle.std.proofs.Common.{◌∙◌, ap}
 use Rattle.wb_port.specs.Wait.{instr_touches, touches}
 use Rattle.wb_port.proofs.loops.touches.Goals as goal
 

@@ -1,4 +1,4 @@
-use Rattle.std.proofs.Common.{◌≡◌, ◌∙◌, ◌∷◌, ◌++◌, [], List, ap, sym, arith}
+use Rattle.std.proofs.Common.{◌∙◌, ◌∷◌, ◌++◌, [], List, ap}
 use Rattle.wb_port.specs.declared.points.Point.{Point}
 use Rattle.wb_port.proofs.Playing.{lasts}
 use Rattle.wb_port.proofs.Passing.{trail_begins, trail_next, trail_ends}

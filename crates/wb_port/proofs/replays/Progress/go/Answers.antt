@@ -1,4 +1,4 @@
-use Rattle.std.proofs.Common.{◌≡◌, ◌∙◌, ◌≤◌, ◌+◌, ◌<◌, ap, sym, refl, arith, take, drop}
+use Rattle.std.proofs.Common.{◌∙◌, ap, sym, refl, arith, take, drop}
 use Rattle.wb_port.specs.declared.chips.Chip.{Chip}
 use Rattle.wb_port.specs.Monitor.{stepped}
 use Rattle.wb_port.specs.Run.{Steps}
