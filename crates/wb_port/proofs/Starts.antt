@@ -1,11 +1,19 @@
--- The RAM of zeros is a lawful start.
-use Rattle.std.proofs.Common.{ℕ, ◌<◌, replicate, lit<}
+-- A dialogue without accesses from a RAM of zeros is lawful.
+use Rattle.std.proofs.Common.{◌≡◌, ℕ, ◌<◌, List, [], All, replicate, lit<, sym, subst, arith}
 use Rattle.std.proofs.lemmas.List.{length-replicate}
 use Rattle.std.proofs.lemmas.List.Elements.{All-replicate}
-use Rattle.wb_port.specs.Talk.{IsStart}
+use Rattle.wb_port.specs.declared.accesses.Access.{Access}
+use Rattle.wb_port.specs.Talk.{IsStart, IsByteAccess, IsTalk}
 
-pub zeros : IsStart (replicate 256 0)
+zeros : IsStart (replicate 256 0)
 zeros = record {
   len = length-replicate {A = ℕ} 256 0;
   words = All-replicate {X = ℕ} (λ word. word < 65536) 256 0 (lit< tt);
 }
+
+no_accesses : All IsByteAccess []
+no_accesses k d less = absurd (let none : k < 0 = less in omega arith)
+
+pub first_talk : (accesses : List Access) → accesses ≡ [] → IsTalk (record { start = replicate 256 0; accesses = accesses })
+first_talk accesses e =
+    record { start_in = zeros; bytes_in = subst (All IsByteAccess) (sym e) no_accesses }

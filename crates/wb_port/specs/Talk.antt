@@ -21,6 +21,11 @@ IsByteAccess access.Status = Unit {0}
 IsByteAccess access.Read = Unit {0}
 IsByteAccess (access.Write byte) = byte < 256
 
+-- what every dialogue keeps: its start is a content of the RAM, and its bytes are bytes
+pub record IsTalk (d : Talk) : Type 0 where
+  pub start_in : IsStart d.start
+  pub bytes_in : All IsByteAccess d.accesses
+
 -- the kinds of the data transfers among some accesses, in order
 abbrev pub kinds : List Access → List Kind
 kinds [] = []

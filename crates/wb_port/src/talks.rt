@@ -11,18 +11,18 @@ pub struct Dialogue {
 }
 
 impl Model for Dialogue {
-    ghost use Rattle.wb_port.specs.Talk.{Talk, IsStart};
+    ghost use Rattle.wb_port.specs.Talk.{Talk, IsTalk};
 
     ghost Value = { Talk };
 
     ghost view = { λ d. record { start = d.start; accesses = d.accesses.items } };
 
-    ghost invariant = { λ d. IsStart d.start };
+    ghost invariant = { λ d. IsTalk (record { start = d.start; accesses = d.accesses.items }) };
 }
 
 impl Dialogue {
     ghost use Rattle.std.specs.Prelude.{◌≡◌, ◌<◌, [], ◌∷◌, ◌++◌, Some, OnOk, OnErr, length, replicate, slice_get, slice_index};
-    ghost use Rattle.wb_port.specs.Talk.{Talk, IsStart};
+    ghost use Rattle.wb_port.specs.Talk.{Talk, IsTalk};
 
     /// No accesses, from a RAM of zeros.
     pub fn new(alloc: Global) -> Self
@@ -46,7 +46,8 @@ impl Dialogue {
 
     /// The accesses.
     pub fn list(&self) -> &[Access]
-        ensures { result.now ≡ self.now.accesses }
+        ensures value { result.now ≡ self.now.accesses }
+        ensures lawful { IsTalk self.now }
     {
         self.accesses.as_slice()
     }
@@ -76,7 +77,7 @@ impl Dialogue {
     /// The word at an address of the RAM at power-up.
     pub fn start_at(&self, dp: u8) -> u16
         ensures value { result ≡ slice_index self.now.start dp }
-        ensures start { IsStart self.now.start }
+        ensures lawful { IsTalk self.now }
     {
         self.start[usize::from(dp)]
     }
@@ -84,7 +85,7 @@ impl Dialogue {
     /// The content of the RAM at power-up.
     pub fn start(&self) -> &[u16]
         ensures value { result.now ≡ self.now.start }
-        ensures start { IsStart self.now.start }
+        ensures lawful { IsTalk self.now }
     {
         &self.start
     }

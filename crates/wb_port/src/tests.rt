@@ -291,11 +291,13 @@ fn an_eight_word_loop_is_followed(rt: HostRuntime) -> Result<(), Fail> {
 }
 
 #[test]
-fn an_idle_image_passes_three_points(rt: HostRuntime) -> Result<(), Fail> {
+fn runs_pass_their_points(rt: HostRuntime) -> Result<(), Fail> {
     let alloc = rt.alloc();
     let image = image_of(alloc, ECHO)?;
     let points = points_passed(alloc, &image, Side::A, &Dialogue::new(alloc), 2)?;
     assert_eq!(rt; points.len(), 3);
+    let read = dialogue_of(alloc, &[R])?;
+    assert_eq!(rt; points_passed(alloc, &image, Side::A, &read, 3)?.len(), 7);
     Ok(())
 }
 
