@@ -3,15 +3,17 @@
 //! `specs/Next.antt` gives each register after an instruction as a function of the state before it, and
 //! `Machine::step` is exactly that, for every image and every state. `registers` has the registers,
 //! `processor` the machine, `effects` what an instruction does to the registers, in its order, and `jumps`
-//! the conditions. A machine keeps the ranges of its parts. No call takes memory.
+//! the conditions, `laws` what is true of every instruction. A machine keeps the ranges of its parts. No call takes memory.
 #![tactic(auto)]
 
 mod effects;
 mod jumps;
+mod laws;
 mod processor;
 mod registers;
 #[cfg(test)]
 mod tests;
 
+pub use laws::{parts_go_on_alone, ranges_are_kept};
 pub use processor::Machine;
 pub use registers::Regs;

@@ -1,0 +1,33 @@
+-- `next` register by register, and the ranges that it keeps.
+use Rattle.std.specs.Prelude.{◌≡◌}
+use Rattle.wb_rom.specs.declared.images.Image.{Image}
+use Rattle.wb_machine.specs.State.{State, IsState}
+use Rattle.wb_machine.specs.Next.{instr_at, next, pc_after, sp_after, rp_after, dp_after, a_after, b_after, tr_after, trb_after, k_after, l_after, dr_after, sr_after, so_after, flags_a_after, flags_b_after, stack_after, ram_after}
+
+-- each part of the state after an instruction is its own definition, of the instruction and the state before it
+pub record GoesOn (image : Image) (s : State) : Type 0 where
+  pub pc : (next image s).regs.pc ≡ pc_after (instr_at image s) s
+  pub sp : (next image s).regs.sp ≡ sp_after (instr_at image s) s
+  pub rp : (next image s).regs.rp ≡ rp_after (instr_at image s) image s
+  pub dp : (next image s).regs.dp ≡ dp_after (instr_at image s) image s
+  pub a : (next image s).regs.a ≡ a_after (instr_at image s) image s
+  pub b : (next image s).regs.b ≡ b_after (instr_at image s) image s
+  pub tr : (next image s).regs.tr ≡ tr_after (instr_at image s) image s
+  pub trb : (next image s).regs.trb ≡ trb_after (instr_at image s) image s
+  pub k : (next image s).regs.k ≡ k_after (instr_at image s) image s
+  pub l : (next image s).regs.l ≡ l_after (instr_at image s) image s
+  pub dr : (next image s).regs.dr ≡ dr_after (instr_at image s) image s
+  pub sr : (next image s).regs.sr ≡ sr_after (instr_at image s) image s
+  pub so : (next image s).regs.so ≡ so_after (instr_at image s) image s
+  pub flags_a : (next image s).regs.flags_a ≡ flags_a_after (instr_at image s) image s
+  pub flags_b : (next image s).regs.flags_b ≡ flags_b_after (instr_at image s) image s
+  pub stack : (next image s).stack ≡ stack_after (instr_at image s) s
+  pub ram : (next image s).ram ≡ ram_after (instr_at image s) image s
+
+-- Each part of the state goes on by its own definition.
+abbrev pub PartsGoOnAlone : Type 0
+PartsGoOnAlone = (image : Image) (s : State) → GoesOn image s
+
+-- An instruction keeps the ranges of all parts.
+abbrev pub RangesAreKept : Type 0
+RangesAreKept = (image : Image) (s : State) → IsState s → IsState (next image s)
