@@ -1,4 +1,4 @@
-// Calls that are counted, some of which are to fail.
+//! Calls that are counted, some of which are to fail.
 use crate::OutOfMemory;
 use std::alloc::Global;
 use std::marker::Model;

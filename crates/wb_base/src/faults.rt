@@ -1,4 +1,4 @@
-// What a call of this crate answers where it does not succeed.
+//! What a call of this crate answers where it does not succeed.
 ghost use Rattle.std.specs.Prelude.{◌≡◌};
 ghost use Rattle.wb_base.specs.declared.faults.ReadFault.TheVariants as fault;
 

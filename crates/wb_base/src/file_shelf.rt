@@ -1,4 +1,4 @@
-// The file system as a shelf.
+//! The file system as a shelf.
 ghost use Rattle.std.specs.Prelude.{◌≡◌, ◌+◌, ◌-◌, ◌^◌, ◌≤◌, length, drop, min, IfOk, IsSomeAnd, None};
 
 use crate::opened::{Opened, open_at};

@@ -1,10 +1,10 @@
-// Where a program reads its files and writes its report, as two traits.
-//
-// A `Shelf` gives the bytes of named contents, and a `Sink` takes bytes. Each counts its faults, and a
-// call that fails says so by that count. `read_whole` (`src/reading.rt`) gives a content whole or says
-// why not, and `put_all` (`src/writing.rt`) puts a text whole or a part from its front. `MemShelf` and
-// `MemSink` are in memory and fail where they are told to; `FileShelf` and `StdSink` are the real ones.
-// `specs/Shelf.antt` and `specs/Sink.antt` say what the traits promise.
+//! Where a program reads its files and writes its report, as two traits.
+//!
+//! A `Shelf` gives the bytes of named contents, and a `Sink` takes bytes. Each counts its faults, and a
+//! call that fails says so by that count. `read_whole` (`src/reading.rt`) gives a content whole or says
+//! why not, and `put_all` (`src/writing.rt`) puts a text whole or a part from its front. `MemShelf` and
+//! `MemSink` are in memory and fail where they are told to; `FileShelf` and `StdSink` are the real ones.
+//! `specs/Shelf.antt` and `specs/Sink.antt` say what the traits promise.
 #![tactic(auto)]
 
 mod calls;

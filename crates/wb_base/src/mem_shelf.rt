@@ -1,4 +1,4 @@
-// A shelf in memory, which tells its contents.
+//! A shelf in memory, which tells its contents.
 ghost use Rattle.std.specs.Prelude.{◌≡◌, ◌≤◌, ◌-◌, ◌++◌, length, min, take, drop};
 
 use crate::calls::Calls;

@@ -1,4 +1,4 @@
-// A sink in memory, with a room of its own.
+//! A sink in memory, with a room of its own.
 use crate::calls::Calls;
 use crate::{Failed, OutOfMemory, Sink};
 use std::alloc::Global;

@@ -1,4 +1,4 @@
-// A file that is read front to back.
+//! A file that is read front to back.
 ghost use Rattle.std.specs.Prelude.{◌≡◌, ◌+◌, ◌-◌, ◌^◌, ◌<◌, ◌≤◌, ◌↔◌, length, take, drop, min, IsTrue, IfOk, IfSome, IfNone};
 
 use crate::Failed;

@@ -1,4 +1,4 @@
-// A content is read whole.
+//! A content is read whole.
 ghost use Rattle.std.specs.Prelude.{◌≡◌, ◌≤◌, ℕ, List};
 ghost use Rattle.wb_base.specs.Shelf.{IsReading};
 

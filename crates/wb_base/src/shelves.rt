@@ -1,4 +1,4 @@
-// The trait of what named contents are read from.
+//! The trait of what named contents are read from.
 ghost use Rattle.std.specs.Prelude.{◌≡◌, ◌≤◌, ℕ, List, Option};
 ghost use Rattle.wb_base.specs.Shelf.{IsRead};
 

@@ -1,4 +1,4 @@
-// The trait of what takes bytes.
+//! The trait of what takes bytes.
 ghost use Rattle.std.specs.Prelude.{◌≤◌, ℕ, List, Option};
 ghost use Rattle.wb_base.specs.Sink.{IsPut};
 

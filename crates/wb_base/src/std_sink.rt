@@ -1,4 +1,4 @@
-// Standard output as a sink.
+//! Standard output as a sink.
 use crate::{Failed, Sink};
 use std::io::Write;
 

@@ -1,4 +1,4 @@
-// What no clause says: that memory suffices for each call, and what the real files and devices answer.
+//! What no clause says: that memory suffices for each call, and what the real files and devices answer.
 use crate::{
     Failed, FileShelf, MemShelf, MemSink, ReadFault, Shelf, Sink, StdSink, put_all, read_whole,
 };

@@ -1,4 +1,4 @@
-// A text is put whole.
+//! A text is put whole.
 ghost use Rattle.std.specs.Prelude.{◌≤◌};
 ghost use Rattle.wb_base.specs.Sink.{IsPutting};
 

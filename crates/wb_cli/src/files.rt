@@ -1,4 +1,4 @@
-// The files of a command: read whole, and their contents checked.
+//! The files of a command: read whole, and their contents checked.
 ghost use Rattle.std.specs.Prelude.{◌≡◌, ◌≤◌, ℕ, List, length};
 ghost use Rattle.wb_cli.specs.Files.{IsFile, IsImageCheck, IsScriptCheck};
 

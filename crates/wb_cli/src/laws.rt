@@ -1,4 +1,4 @@
-// What follows from the answers of a call.
+//! What follows from the answers of a call.
 ghost use Rattle.wb_cli.specs.declared.statuses.Status.{Status};
 ghost use Rattle.wb_cli.specs.Answers.{Answers, Met, Put};
 ghost use Rattle.wb_cli.specs.Complete.{IsRun, IsValidRun};

@@ -1,4 +1,4 @@
-// What a call comes to: the first step that stops it, or what the work gave.
+//! What a call comes to: the first step that stops it, or what the work gave.
 ghost use Rattle.std.specs.Prelude.{◌≡◌, ◌≤◌, ℕ, List, length, map, string_bytes};
 ghost use Rattle.wb_cli.specs.Outcome.{ComesTo, RunFilesTo, RunsTo, RunsItemsTo};
 ghost use Rattle.wb_cli.specs.Plan.{plan_of};

@@ -1,3 +1,4 @@
+//! The words of a command line, and the plan that they make.
 ghost use Rattle.std.specs.Prelude.{◌≡◌, [], ◌∷◌, map, string_bytes};
 ghost use Rattle.std.specs.Option.{option_map};
 ghost use Rattle.wb_cli.specs.Plan.{plan_of, run_of};

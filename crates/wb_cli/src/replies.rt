@@ -1,4 +1,4 @@
-// The report of what a call came to.
+//! The report of what a call came to.
 ghost use Rattle.std.specs.Prelude.{◌≡◌, IfOk, string_bytes};
 ghost use Rattle.wb_cli.specs.Answers.{IsReply, line_text, transcript_ending};
 

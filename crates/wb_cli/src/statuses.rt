@@ -1,3 +1,4 @@
+//! How a call ends, and its exit status.
 ghost use Rattle.std.specs.Prelude.{◌≡◌};
 ghost use Rattle.wb_cli.specs.Status.{ending_status, status_number};
 

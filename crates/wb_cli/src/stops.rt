@@ -1,4 +1,4 @@
-// Where a call stops before its work is done, and the line that says so.
+//! Where a call stops before its work is done, and the line that says so.
 ghost use Rattle.std.specs.Prelude.{◌≡◌, Some};
 ghost use Rattle.wb_cli.specs.Texts.{place_number, stop_line};
 

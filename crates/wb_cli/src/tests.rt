@@ -1,4 +1,4 @@
-// Whole calls: the words, the files and the bytes that are written.
+//! Whole calls: the words, the files and the bytes that are written.
 use crate::{Status, command};
 use std::alloc::Global;
 use std::process::Abort;

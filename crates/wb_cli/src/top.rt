@@ -1,4 +1,4 @@
-// The call behind the program.
+//! The call behind the program.
 ghost use Rattle.std.specs.Prelude.{◌≡◌, ◌≤◌, ℕ, List, map, string_bytes};
 ghost use Rattle.wb_cli.specs.Answers.{Answers};
 ghost use Rattle.wb_cli.specs.Plan.{plan_of};

@@ -1,4 +1,4 @@
-// Why a text gave no script.
+//! Why a text gave no script.
 ghost use Rattle.std.specs.Prelude.{◌≡◌};
 
 use std::alloc::{AllocError, AllocFailed};

@@ -1,4 +1,4 @@
-// The bytes of a line: its comment, its fields, and the values that they write.
+//! The bytes of a line: its comment, its fields, and the values that they write.
 ghost use Rattle.std.specs.Prelude.{◌≡◌, ◌≤◌, ◌<◌, ◌==◌, None, Some, false, [], ◌∷◌, length, slice_index, if◌then◌else◌};
 ghost use Rattle.std.specs.Char.{is_digit, digit_value};
 ghost use Rattle.std.specs.List.{position_or_len, list_all};

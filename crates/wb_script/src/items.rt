@@ -1,4 +1,4 @@
-// What a host does with the chip, one thing after another.
+//! What a host does with the chip, one thing after another.
 
 /// One action of a host script.
 #[derive(Clone, Copy, PartialEq, Eq, Debug)]

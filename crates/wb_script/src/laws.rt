@@ -1,4 +1,4 @@
-// What holds of every text.
+//! What holds of every text.
 ghost use Rattle.std.specs.Prelude.{◌≡◌, ◌⊎◌, ℕ, List};
 ghost use Rattle.wb_script.specs.declared.items.Item.{Item};
 ghost use Rattle.wb_script.specs.Script.{IsScript, IsFirstBad};

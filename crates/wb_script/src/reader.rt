@@ -1,4 +1,4 @@
-// Reads a text line by line, and unrolls its repetitions as they end.
+//! Reads a text line by line, and unrolls its repetitions as they end.
 ghost use Rattle.std.specs.Prelude.{◌≡◌, ℕ, ◌<◌, ◌≤◌, ◌+◌, ◌∷◌, ◌++◌, IfErr, IfOk, IsOkAnd, MatchOption, OnOk, drop, length, take};
 ghost use Rattle.std.specs.Result.{IsErrOf};
 ghost use Rattle.std.specs.Str.Lines.{lines, strip_carriage_return};

@@ -1,4 +1,4 @@
-// A list of items.
+//! A list of items.
 ghost use Rattle.std.specs.Prelude.{◌≡◌, ◌<◌, Some, length, slice_get};
 
 use crate::Item;

@@ -1,4 +1,4 @@
-// What one line of a script says.
+//! What one line of a script says.
 ghost use Rattle.std.specs.Prelude.{◌≡◌};
 ghost use Rattle.wb_script.specs.Statement.{word_alone, word_and_value, repetition, statement_of};
 

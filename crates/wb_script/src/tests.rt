@@ -1,4 +1,4 @@
-// Scripts that were written by hand, and what they mean.
+//! Scripts that were written by hand, and what they mean.
 use crate::{Item, Script, ScriptFault, each_text_has_one_answer, read_script};
 use std::alloc::Global;
 use std::process::Abort;

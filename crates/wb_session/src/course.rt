@@ -1,4 +1,4 @@
-// The run of a script on an image.
+//! The run of a script on an image.
 ghost use Rattle.std.specs.Prelude.{◌≡◌, ◌≤◌, ◌+◌, [], IfOk, MatchOption, MatchResult, length, vec_capacity};
 ghost use Rattle.wb_port.specs.declared.chips.Chip.{Chip};
 ghost use Rattle.wb_port.specs.Schedule.{after};

@@ -1,4 +1,4 @@
-// What holds of every script.
+//! What holds of every script.
 ghost use Rattle.std.specs.Prelude.{◌≡◌, List};
 ghost use Rattle.wb_rom.specs.declared.images.Image.{Image};
 ghost use Rattle.wb_script.specs.declared.items.Item.{Item};

@@ -1,10 +1,10 @@
-// Runs of host scripts on an image, and what they come to.
-//
-// `run_script` gives the one transcript of a script: a line for each item that was answered, and how the run
-// ended. `play_script` gives the machine too, which made exactly the events of the transcript.
-// `transcript_text` is the text of a transcript. `transcripts.rt` has the types and the text of one line,
-// `course.rt` the run, `texts.rt` the whole text, `laws.rt` that each script has exactly one transcript.
-// `specs/Transcript.antt` relates items and lines, and `specs/Texts.antt` says which bytes a line has.
+//! Runs of host scripts on an image, and what they come to.
+//!
+//! `run_script` gives the one transcript of a script: a line for each item that was answered, and how the run
+//! ended. `play_script` gives the machine too, which made exactly the events of the transcript.
+//! `transcript_text` is the text of a transcript. `transcripts.rt` has the types and the text of one line,
+//! `course.rt` the run, `texts.rt` the whole text, `laws.rt` that each script has exactly one transcript.
+//! `specs/Transcript.antt` relates items and lines, and `specs/Texts.antt` says which bytes a line has.
 #![tactic(auto)]
 
 mod course;

@@ -1,4 +1,4 @@
-// The text of a transcript.
+//! The text of a transcript.
 ghost use Rattle.std.specs.Prelude.{◌≡◌, IfOk};
 ghost use Rattle.wb_session.specs.Texts.{transcript_bytes};
 

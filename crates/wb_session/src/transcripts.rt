@@ -1,4 +1,4 @@
-// What a script came to: the lines that answer its items, and how it ended.
+//! What a script came to: the lines that answer its items, and how it ended.
 ghost use Rattle.std.specs.Prelude.{◌≡◌, ◌<◌, [], ◌∷◌, ◌++◌, OnOk, OnErr, Some, length, slice_get};
 
 use std::alloc::Global;
