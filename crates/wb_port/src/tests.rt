@@ -1,5 +1,3 @@
-mod schedules;
-
 use crate::{
     Access, Chip, Dialogue, Event, Letter, Run, Shape, Side, follow, is_poll, points_passed,
     replay, requested, to_gate,

@@ -1,0 +1,12 @@
+pub mod Course
+pub mod Eager
+pub mod Ends
+pub mod Faithful
+pub mod FreshRequests
+pub mod HeldPoints
+pub mod Pigeon
+pub mod Ranks
+pub mod Replies
+pub mod Stops
+pub mod Turns
+pub mod Walks
