@@ -1,5 +1,5 @@
 -- Held chips and the points that they pass.
-use Rattle.std.specs.Prelude.{◌≡◌, ◌≢◌, ◌↔◌, ℕ, ◌≤◌, ◌<◌, true, false, None, List, [], ◌++◌, length, All, AllPairs, Contains}
+use Rattle.std.specs.Prelude.{◌≡◌, ◌↔◌, ℕ, ◌≤◌, ◌<◌, true, false, None, List, [], ◌++◌, All}
 use Rattle.wb_word.specs.declared.sides.Side.{Side}
 use Rattle.wb_rom.specs.declared.images.Image.{Image}
 use Rattle.wb_port.specs.declared.accesses.Access.{Access}
@@ -67,9 +67,3 @@ LastPointsArePassedAfterAll =
     (image : Image) (s : Side) (k : ℕ) (d : Talk) (p : Point)
     → All IsTransfer d.accesses → p.kinds ≡ kinds d.accesses
     → Passes image s k d p ↔ PassesAfter image s k d.accesses (powered d.start) p
-
--- Points that are different from one another and stand in a list are no more than this list has.
-abbrev pub DifferentPointsAreNoMore : Type 0
-DifferentPointsAreNoMore =
-    (xs ys : List Point)
-    → AllPairs (λ x y. x ≢ y) xs → All (Contains ys) xs → length xs ≤ length ys
