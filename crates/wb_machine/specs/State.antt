@@ -62,6 +62,6 @@ first_regs = record {
 unfoldable pub power : List ℕ → State
 power cells = record { regs = first_regs; stack = replicate 4 0; ram = cells }
 
--- the chip at power-up with an empty RAM
+-- the chip at power-up with a RAM of zeros
 unfoldable pub reset : State
 reset = power (replicate 256 0)
