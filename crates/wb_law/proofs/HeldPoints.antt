@@ -19,10 +19,10 @@ use Rattle.wb_port.specs.Port.{rqm, access_reply}
 use Rattle.wb_port.specs.Wait.{is_poll}
 use Rattle.wb_port.specs.Monitor.{place, stepped}
 use Rattle.wb_port.specs.Schedule.{powered, applied}
-use Rattle.wb_port.specs.Talk.{kinds}
+use Rattle.wb_port.specs.Talk.{kinds, IsTransfer}
 use Rattle.wb_port.specs.Run.{Moment, Turn, Gives, Steps, Ends, is_waiting, turn, goes_on, turns}
 use Rattle.wb_law.specs.Course.{stop_of, stride, strides, Given}
-use Rattle.wb_port.specs.Points.{point_of, IsTransfer, Passes}
+use Rattle.wb_port.specs.Points.{point_of, Passes}
 use Rattle.wb_law.specs.Points.{PassesAfter, PointsArePassedAfterAccesses, LastPointsArePassedAfterAll}
 use Rattle.wb_law.proofs.Replies.{kinds_append}
 use Rattle.wb_law.proofs.Turns.{moment, gives, waits, stays}

@@ -9,10 +9,10 @@ use Rattle.wb_port.specs.Port.{rqm}
 use Rattle.wb_port.specs.Monitor.{stepped}
 use Rattle.wb_port.specs.Rank.{rank_of}
 use Rattle.wb_port.specs.Schedule.{powered}
-use Rattle.wb_port.specs.Talk.{Talk, kinds}
+use Rattle.wb_port.specs.Talk.{Talk, kinds, IsTransfer}
 use Rattle.wb_port.specs.Run.{is_waiting}
 use Rattle.wb_law.specs.Course.{strides, stop_of, Given}
-use Rattle.wb_port.specs.Points.{Passes, IsTransfer, point_of}
+use Rattle.wb_port.specs.Points.{Passes, point_of}
 
 -- the chip is in pace, and a request that stands is asked
 pub record IsInPace (k : ℕ) (c : Chip) : Type 0 where
