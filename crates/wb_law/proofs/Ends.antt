@@ -1,12 +1,13 @@
 -- How runs end, of whole dialogues.
 use Rattle.std.proofs.Common.{ℕ, true, false, List, [], ◌∷◌, ◌++◌, ◌⊎◌, sym, subst}
 use mathlib.Core.Logic.◌⊎◌.{inl, inr}
+use Rattle.wb_port.specs.Talk.{transfers_of}
 use Rattle.wb_port.specs.declared.accesses.Access.{Access}
 use Rattle.wb_port.specs.declared.accesses.Event.TheVariants as event
 use Rattle.wb_port.specs.declared.chips.Chip.{Chip}
 use Rattle.wb_port.specs.Schedule.{powered, applied}
 use Rattle.wb_port.specs.Run.{beginning}
-use Rattle.wb_law.specs.Course.{Ran, StopsAs, StopsBefore, StopsAfter, Given, transfers_of}
+use Rattle.wb_law.specs.Course.{Ran, StopsAs, StopsBefore, StopsAfter, Given}
 use Rattle.wb_law.specs.Runs.{RunsHaveOneEnd, RunsFollowTheirCourse, HeldRunsStopBeforeOrAfter, LongerRunsStopBefore, ShorterRunsStopToo, StatusReadsStopNothing}
 use Rattle.wb_law.specs.Requests.{RequestsAreOne, GivenChipsAreOne, LastAccessIsGivenAtARequest}
 use Rattle.wb_law.proofs.Course.{ran_if_ends, ends_if_ran, one_end}

@@ -20,11 +20,11 @@ use Rattle.wb_port.specs.Port.{rqm}
 use Rattle.wb_port.specs.Wait.{is_poll, follow_times}
 use Rattle.wb_port.specs.Monitor.{place, is_breach}
 use Rattle.wb_port.specs.Schedule.{powered, applied}
-use Rattle.wb_port.specs.Talk.{Talk, IsByteAccess, kinds}
+use Rattle.wb_port.specs.Talk.{Talk, IsByteAccess, kinds, dialogue, transfers_of, IsTransfer}
 use Rattle.wb_port.specs.Dialogue.{Fits, AllowsEach}
 use Rattle.wb_port.specs.Run.{Moment, Steps, Ends, is_waiting, turn, turns, beginning}
-use Rattle.wb_law.specs.Course.{dialogue, stop_of, strides, RestsAt, Given, transfers_of}
-use Rattle.wb_port.specs.Points.{point_of, IsTransfer}
+use Rattle.wb_law.specs.Course.{stop_of, strides, RestsAt, Given}
+use Rattle.wb_port.specs.Points.{point_of, point_at}
 use Rattle.wb_law.specs.Points.{PassesAfter}
 use Rattle.wb_port.specs.Executes.{Executes}
 use Rattle.wb_law.specs.Addresses.{stop_at, PointsTellWhatComes, Shows, IsShown, ExecutedAddressesAreShown, ShownAddressesAreExecuted, ReachedPointsShowTheExecuted}
@@ -36,12 +36,12 @@ use Rattle.wb_law.proofs.Replies.{kinds_append, kinds_stripped, all_transfers}
 use Rattle.wb_law.proofs.HeldPoints.{points_after_accesses, last_points}
 use Rattle.wb_law.proofs.Moments.{IsAfter, leads, comes_all, silent_as, held_as}
 
-stop_is : (image : Image) (k : ℕ) (s : Side) (m : Moment) → stop_at image k (point_of s m) ≡ stop_of image k m.chip
+stop_is : (image : Image) (k : ℕ) (s : Side) (ks : List Kind) (c : Chip) → stop_at image k (point_at s ks c) ≡ stop_of image k c
 unfolding stop_at stop_of is_breach
-stop_is image k s m = refl
+stop_is image k s ks c = refl
 
 pub points_tell_what_comes : PointsTellWhatComes
-points_tell_what_comes image k s m = record { rests = refl; stops = stop_is image k s m }
+points_tell_what_comes image k s ks c = record { rests = refl; stops = stop_is image k s ks c }
 
 module _ (image : Image) (k : ℕ) where
   -- a held chip that executes an instruction neither waits nor stops
@@ -113,7 +113,7 @@ shown image s k d at m h show =
     let front : List Access = transfers_of h.front in
     let t = comes_all image k front [] (powered d.start) c.after [] c.steps c.given in
     let j = t.1 in
-    let p : Point = point_of s (moment m.chip [] front []) in
+    let p : Point = point_at s (kinds front) m.chip in
     let same : kinds m.given ≡ kinds front = ap kinds h.gave ∙ sym (kinds_stripped h.front) in
     let e : d.accesses ≡ h.front ++ m.left = h.parts in
     record {
@@ -122,7 +122,7 @@ shown image s k d at m h show =
       parts = ap transfers_of e ∙ transfers_append h.front m.left;
       point = p;
       whole = refl;
-      passes = (j.0, ap (point_of s) j.1 ∙ ap (λ (y : Chip). point_of s (moment y [] front t.0)) c.comes);
+      passes = (j.0, ap (point_of s) j.1 ∙ ap (λ (y : Chip). point_at s (kinds front) y) c.comes);
       shows = subst (λ (ks : List Kind). Shows image k (record p { kinds = ks }) at) same show;
     }
 
@@ -134,7 +134,7 @@ executed_addresses_are_shown image s k d at h = go_by h
         let m = turns image k true x.before (beginning d) in
         let w = works_of image k m.left m.given m.chip m.said x.next x.executes in
         shown image s k d at m (leads image k x.before d.accesses [] (powered d.start) [])
-        (inl (record { works = w.0; unstopped = stop_is image k s m ∙ w.1; place = x.place }))
+        (inl (record { works = w.0; unstopped = stop_is image k s (kinds m.given) m.chip ∙ w.1; place = x.place }))
     go_by (inr x) =
         let m = turns image k true x.before (beginning d) in
         let w = waits_of image k m.left m.given m.chip m.said x.replies x.answered in
@@ -150,11 +150,11 @@ executed image s k start l p at h show =
     c : Chip
     c = strides image k true h.steps h.after
 
-    go_by : (said : List ℕ) → (j : ℕ) × (turns image k true j (beginning (dialogue start l)) ≡ moment c [] l said) → Shows image k (point_of s (moment c [] l [])) at → Executes image (dialogue start l) k at
+    go_by : (said : List ℕ) → (j : ℕ) × (turns image k true j (beginning (dialogue start l)) ≡ moment c [] l said) → Shows image k (point_at s (kinds l) c) at → Executes image (dialogue start l) k at
     go_by said (j, e) (inl g) = inl (record {
       before = j;
       next = _;
-      executes = ap (turn image k true) e ∙ held_as image k l c said None g.works (sym (stop_is image k s (moment c [] l [])) ∙ g.unstopped);
+      executes = ap (turn image k true) e ∙ held_as image k l c said None g.works (sym (stop_is image k s (kinds l) c) ∙ g.unstopped);
       place = ap (λ (m : Moment). place m.chip) e ∙ g.place;
     })
     go_by said (j, e) (inr g) = inr (record {

@@ -8,12 +8,11 @@ use Rattle.wb_port.specs.declared.accesses.Kind.{Kind}
 use Rattle.wb_port.specs.declared.chips.Chip.{Chip}
 use Rattle.wb_port.specs.declared.points.Point.{Point}
 use Rattle.wb_port.specs.Schedule.{powered}
-use Rattle.wb_port.specs.Talk.{kinds}
+use Rattle.wb_port.specs.Talk.{kinds, IsTransfer}
 use Rattle.wb_port.specs.Run.{turns, beginning}
-use Rattle.wb_port.specs.Points.{point_of, IsTransfer, Passes}
+use Rattle.wb_port.specs.Points.{point_of, point_at, Passes}
 use Rattle.wb_law.specs.Points.{PassesAfter, PointsArePassedAfterAccesses, LastPointsArePassedAfterAll}
 use Rattle.wb_law.proofs.Replies.{kinds_append}
-use Rattle.wb_law.proofs.Turns.{moment}
 use Rattle.wb_law.proofs.Moments.{leads, comes_all}
 
 -- a first part of some transfers that has all of their kinds is the whole
@@ -40,8 +39,8 @@ points_after_accesses image s k d p h =
         given = w.given;
         steps = w.steps;
         point =
-            ap (λ (c : Chip). point_of s (moment c [] w.front [])) w.comes
-            ∙ (ap (λ (g : List Access). point_of s (moment m.chip [] g [])) (sym w.gave) ∙ h.1);
+            ap (λ (c : Chip). point_at s (kinds w.front) c) w.comes
+            ∙ (ap (λ (g : List Access). point_at s (kinds g) m.chip) (sym w.gave) ∙ h.1);
       };
     }
 

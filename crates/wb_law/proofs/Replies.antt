@@ -15,10 +15,9 @@ use Rattle.wb_port.specs.declared.chips.Chip.{Chip}
 use Rattle.wb_port.specs.declared.runs.Run.TheVariants.{Answered}
 use Rattle.wb_port.specs.Port.{access_reply}
 use Rattle.wb_port.specs.Schedule.{powered, applied}
-use Rattle.wb_port.specs.Talk.{IsByteAccess, kinds}
+use Rattle.wb_port.specs.Talk.{IsByteAccess, kinds, transfers_of, dialogue, IsTransfer}
 use Rattle.wb_port.specs.Dialogue.{Fits, AllowsEach}
-use Rattle.wb_port.specs.Points.{IsTransfer}
-use Rattle.wb_law.specs.Course.{RestsAt, Ran, Given, AsksAfter, transfers_of, dialogue}
+use Rattle.wb_law.specs.Course.{RestsAt, Ran, Given, AsksAfter}
 use Rattle.wb_law.specs.Schedules.{RequestsAlike, RequestsDecide}
 use Rattle.wb_law.specs.Requests.{StatusReadsMoveNoRequest, LastReplyIsGivenAtARequest}
 use Rattle.wb_law.specs.Runs.{AnsweredRunsAreGiven}

@@ -15,10 +15,10 @@ use Rattle.wb_port.specs.declared.runs.Run.TheVariants.{Answered}
 use Rattle.wb_port.specs.Port.{rqm, access_reply}
 use Rattle.wb_port.specs.Monitor.{stepped}
 use Rattle.wb_port.specs.Schedule.{powered, applied}
-use Rattle.wb_port.specs.Talk.{kinds}
+use Rattle.wb_port.specs.Talk.{kinds, transfers_of}
 use Rattle.wb_port.specs.Run.{Moment, Turn, Gives, Steps, Ends, give, is_waiting, turn, goes_on, turns}
-use Rattle.wb_law.specs.Course.{stop_of, transfers_of}
-use Rattle.wb_port.specs.Points.{point_of}
+use Rattle.wb_law.specs.Course.{stop_of}
+use Rattle.wb_port.specs.Points.{point_of, point_at}
 use Rattle.wb_law.specs.Reached.{StatusReadsPassNoPoint}
 use Rattle.wb_law.proofs.Replies.{kinds_append}
 use Rattle.wb_law.proofs.Turns.{moment, gives, waits, stays}
@@ -27,7 +27,7 @@ use Rattle.wb_law.proofs.Moments.{silent_as, held_as}
 module _ (image : Image) (side : Side) (k : ℕ) where
   -- the point of a chip after these accesses
   abbrev pub spot : List Access → Chip → Point
-  spot g c = point_of side (moment c [] g [])
+  spot g c = point_at side (kinds g) c
 
   -- the held run from the moment passes the point
   abbrev pub Meets : Moment → Point → Type 0
@@ -44,7 +44,7 @@ module _ (image : Image) (side : Side) (k : ℕ) where
   ended j m x p e q = ap (point_of side) (sym (stays image k true m x e j)) ∙ q
 
   same_spot : (g h : List Access) (c : Chip) → kinds g ≡ kinds h → spot g c ≡ spot h c
-  same_spot g h c e = ap (λ (ks : List Kind). record (spot g c) { kinds = ks }) e
+  same_spot g h c e = ap (λ (ks : List Kind). point_at side ks c) e
 
   -- what is passed with some accesses left is passed with others, by the point after so many turns
   abbrev pub PassesToo : List Access → List Access → Point → ℕ → Type 0

@@ -3,6 +3,7 @@ use Rattle.std.proofs.Common.{◌≡◌, ℕ, zero, suc, Bool, true, false, Opti
 use mathlib.Core.Logic.◌⊎◌.{inl, inr}
 use Rattle.std.proofs.lemmas.Bool.{both_ways, and_left}
 use Rattle.std.specs.Option.{option_to_list}
+use Rattle.wb_port.specs.Talk.{transfers_of}
 use Rattle.wb_rom.specs.declared.images.Image.{Image}
 use Rattle.wb_port.specs.declared.accesses.Access.{Access}
 use Rattle.wb_port.specs.declared.accesses.Access.TheVariants as access
@@ -15,7 +16,7 @@ use Rattle.wb_port.specs.Wait.{is_poll}
 use Rattle.wb_port.specs.Monitor.{place, stepped}
 use Rattle.wb_port.specs.Schedule.{applied}
 use Rattle.wb_port.specs.Run.{is_waiting}
-use Rattle.wb_law.specs.Course.{rests, stop_of, stride, strides, RestsAt, StopsAs, Ran, Given, AsksAfter, StopsBefore, StopsAfter, IsStop, transfers_of}
+use Rattle.wb_law.specs.Course.{rests, stop_of, stride, strides, RestsAt, StopsAs, Ran, Given, AsksAfter, StopsBefore, StopsAfter, IsStop}
 use Rattle.wb_law.proofs.Course.{stride_rests, stride_stops, stride_steps, strides_rest, strides_stop, rests_before, stops_before, rests_here, stops_here, held_before}
 
 module _ (image : Image) (k : ℕ) where

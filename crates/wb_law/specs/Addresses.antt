@@ -1,47 +1,45 @@
 -- How points show which addresses held runs execute, and where held runs are answered.
-use Rattle.std.specs.Prelude.{◌≡◌, ◌↔◌, ℕ, ◌≤◌, Bool, true, false, not, ◌&&◌, ◌==◌, if◌then◌else◌, Option, Some, None, List, ◌++◌, ◌⊎◌, All}
+use Rattle.std.specs.Prelude.{◌≡◌, ◌↔◌, ℕ, ◌≤◌, Bool, true, false, ◌&&◌, ◌==◌, if◌then◌else◌, Option, Some, None, List, ◌++◌, ◌⊎◌, All}
 use Rattle.wb_word.specs.Encoding.{addr_at}
 use Rattle.wb_word.specs.declared.sides.Side.{Side}
 use Rattle.wb_rom.specs.declared.images.Image.{Image}
 use Rattle.wb_port.specs.declared.accesses.Access.{Access}
+use Rattle.wb_port.specs.declared.accesses.Kind.{Kind}
 use Rattle.wb_port.specs.declared.accesses.Letter.{Letter}
 use Rattle.wb_port.specs.declared.accesses.Power.{Power}
 use Rattle.wb_port.specs.declared.chips.Chip.{Chip}
 use Rattle.wb_port.specs.declared.points.Point.{Point}
 use Rattle.wb_port.specs.declared.runs.Run.{Run}
 use Rattle.wb_port.specs.declared.runs.Run.TheVariants.{Overrun, Breach}
-use Rattle.wb_port.specs.Wait.{touches, is_poll, word_of, follow_times}
-use Rattle.wb_port.specs.Talk.{Talk, kinds}
+use Rattle.wb_port.specs.Wait.{is_poll, follow_times}
+use Rattle.wb_port.specs.Monitor.{breaks_at}
+use Rattle.wb_port.specs.Talk.{Talk, kinds, dialogue, transfers_of, IsTransfer}
 use Rattle.wb_port.specs.Dialogue.{Fits}
-use Rattle.wb_port.specs.Run.{Moment}
 use Rattle.wb_port.specs.Executes.{Executes}
-use Rattle.wb_law.specs.Course.{dialogue, rests, stop_of, transfers_of}
-use Rattle.wb_port.specs.Points.{point_of, Passes, IsTransfer, IsReachedOn}
+use Rattle.wb_law.specs.Course.{rests, stop_of}
+use Rattle.wb_port.specs.Points.{point_at, Passes, IsReachedOn}
 
 -- the held chip of the point waits at a poll
 abbrev pub is_resting : Image → Point → Bool
 is_resting image p = p.rqm && is_poll image p.pc
-
--- the next instruction of the point's chip touches the port while a request is asked, and it isn't in a poll
-abbrev pub is_breaking : Image → Point → Bool
-is_breaking image p = p.asked && touches (word_of image p.pc) && not (is_poll image p.pc)
 
 -- the end of a run whose chip can't execute its next instruction at the point, if it can't
 unfoldable pub stop_at : Image → ℕ → Point → Option Run
 stop_at image k p =
     if p.count == k
     then Some Overrun
-    else if is_breaking image p then Some (Breach (addr_at p.pc)) else None
+    else if breaks_at image p.asked p.pc then Some (Breach (addr_at p.pc)) else None
 
--- whether a held chip rests, and how it stops, by its point
-pub record ClassIsThatOf (image : Image) (k : ℕ) (c : Chip) (p : Point) : Type 0 where
+-- the point of a chip says of it whether it rests where it is held, and how it stops
+pub record Tells (image : Image) (k : ℕ) (p : Point) (c : Chip) : Type 0 where
   pub rests : is_resting image p ≡ rests image true c
   pub stops : stop_at image k p ≡ stop_of image k c
 
--- The point of a moment tells whether its chip rests, and how it stops.
+-- A point tells what comes: whether its chip rests where it is held, and how it stops.
 abbrev pub PointsTellWhatComes : Type 0
 PointsTellWhatComes =
-    (image : Image) (k : ℕ) (s : Side) (m : Moment) → ClassIsThatOf image k m.chip (point_of s m)
+    (image : Image) (k : ℕ) (s : Side) (kinds : List Kind) (c : Chip)
+    → Tells image k (point_at s kinds c) c
 
 -- the chip at the point executes the instruction at the address next
 pub record GoesOnAt (image : Image) (k : ℕ) (p : Point) (at : ℕ) : Type 0 where

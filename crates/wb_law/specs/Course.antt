@@ -7,7 +7,6 @@ use Rattle.std.specs.Option.{option_to_list}
 use Rattle.wb_word.specs.Encoding.{addr_at}
 use Rattle.wb_rom.specs.declared.images.Image.{Image}
 use Rattle.wb_port.specs.declared.accesses.Access.{Access}
-use Rattle.wb_port.specs.declared.accesses.Access.TheVariants as access
 use Rattle.wb_port.specs.declared.accesses.Event.TheVariants as event
 use Rattle.wb_port.specs.declared.chips.Chip.{Chip}
 use Rattle.wb_port.specs.declared.runs.Run.{Run}
@@ -15,7 +14,6 @@ use Rattle.wb_port.specs.declared.runs.Run.TheVariants.{Answered, Overrun, Breac
 use Rattle.wb_port.specs.Port.{rqm, access_reply}
 use Rattle.wb_port.specs.Monitor.{place, is_breach, stepped}
 use Rattle.wb_port.specs.Schedule.{applied}
-use Rattle.wb_port.specs.Talk.{Talk}
 use Rattle.wb_port.specs.Run.{is_waiting}
 
 -- what a chip strides to: a request, for the next access; or, where it is held, a poll at which it waits
@@ -104,14 +102,3 @@ abbrev pub IsStop : Run → Type 0
 IsStop (Answered _) = ⊥
 IsStop Overrun = Unit {0}
 IsStop (Breach _) = Unit {0}
-
--- the data transfers among some accesses: all but the status reads
-abbrev pub transfers_of : List Access → List Access
-transfers_of [] = []
-transfers_of (access.Status ∷ rest) = transfers_of rest
-transfers_of (access.Read ∷ rest) = access.Read ∷ transfers_of rest
-transfers_of (access.Write byte ∷ rest) = access.Write byte ∷ transfers_of rest
-
--- a dialogue by its start and its accesses
-abbrev pub dialogue : List ℕ → List Access → Talk
-dialogue start accesses = record { start = start; accesses = accesses }

@@ -1,5 +1,5 @@
 -- Held chips and the points that they pass.
-use Rattle.std.specs.Prelude.{◌≡◌, ◌↔◌, ℕ, ◌≤◌, ◌<◌, true, false, None, List, [], ◌++◌, All}
+use Rattle.std.specs.Prelude.{◌≡◌, ◌↔◌, ℕ, ◌≤◌, ◌<◌, true, false, None, List, ◌++◌, All}
 use Rattle.wb_word.specs.declared.sides.Side.{Side}
 use Rattle.wb_rom.specs.declared.images.Image.{Image}
 use Rattle.wb_port.specs.declared.accesses.Access.{Access}
@@ -9,10 +9,10 @@ use Rattle.wb_port.specs.Port.{rqm}
 use Rattle.wb_port.specs.Monitor.{stepped}
 use Rattle.wb_port.specs.Rank.{rank_of}
 use Rattle.wb_port.specs.Schedule.{powered}
-use Rattle.wb_port.specs.Talk.{Talk, kinds}
+use Rattle.wb_port.specs.Talk.{Talk, kinds, IsTransfer}
 use Rattle.wb_port.specs.Run.{is_waiting}
 use Rattle.wb_law.specs.Course.{strides, stop_of, Given}
-use Rattle.wb_port.specs.Points.{Passes, IsTransfer, point_of}
+use Rattle.wb_port.specs.Points.{Passes, point_at}
 
 -- the chip is in pace, and a request that stands is asked
 pub record IsInPace (k : ℕ) (c : Chip) : Type 0 where
@@ -45,7 +45,7 @@ pub record PassesAfter (image : Image) (s : Side) (k : ℕ) (front : List Access
   pub after : Chip
   pub given : Given image k front c after
   pub steps : ℕ
-  pub point : point_of s (record { chip = strides image k true steps after; given = front; left = []; said = [] }) ≡ p
+  pub point : point_at s (kinds front) (strides image k true steps after) ≡ p
 
 -- the point is passed after the first of the accesses, as many as it has
 pub record PassesWithin (image : Image) (s : Side) (k : ℕ) (accesses : List Access) (c : Chip) (p : Point) : Type 0 where

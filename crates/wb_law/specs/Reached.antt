@@ -8,7 +8,7 @@ use Rattle.wb_port.specs.declared.accesses.Letter.{Letter}
 use Rattle.wb_port.specs.declared.accesses.Power.{Power}
 use Rattle.wb_port.specs.declared.points.Point.{Point}
 use Rattle.wb_port.specs.Points.{Passes, image_of, IsReachedOn, IsReached, ReachedAtMostOn, ReachedAtMost}
-use Rattle.wb_law.specs.Course.{dialogue, transfers_of}
+use Rattle.wb_port.specs.Talk.{dialogue, transfers_of}
 
 -- Leaving status reads out of a dialogue changes no point of its held run.
 abbrev pub StatusReadsPassNoPoint : Type 0

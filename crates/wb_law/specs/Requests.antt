@@ -1,6 +1,7 @@
 -- Requests: the chips at which the accesses of a dialogue are given.
 use Rattle.std.specs.Prelude.{◌≡◌, ◌↔◌, ℕ, true, false, List, [], ◌∷◌, ◌++◌}
 use Rattle.std.specs.Option.{option_to_list}
+use Rattle.wb_port.specs.Talk.{dialogue, transfers_of}
 use Rattle.wb_rom.specs.declared.images.Image.{Image}
 use Rattle.wb_port.specs.declared.accesses.Access.{Access}
 use Rattle.wb_port.specs.declared.accesses.Event.TheVariants as event
@@ -9,7 +10,7 @@ use Rattle.wb_port.specs.declared.runs.Run.TheVariants.{Answered}
 use Rattle.wb_port.specs.Port.{rqm, access_reply}
 use Rattle.wb_port.specs.Schedule.{powered, applied}
 use Rattle.wb_port.specs.Run.{EndsAs}
-use Rattle.wb_law.specs.Course.{dialogue, strides, RestsAt, Given, AsksAfter, transfers_of}
+use Rattle.wb_law.specs.Course.{strides, RestsAt, Given, AsksAfter}
 
 -- A chip comes to one request after some accesses.
 abbrev pub RequestsAreOne : Type 0

@@ -6,9 +6,9 @@ use Rattle.wb_port.specs.declared.chips.Chip.{Chip}
 use Rattle.wb_port.specs.declared.runs.Run.{Run}
 use Rattle.wb_port.specs.declared.runs.Run.TheVariants.{Answered}
 use Rattle.wb_port.specs.Schedule.{powered}
-use Rattle.wb_port.specs.Talk.{Talk}
+use Rattle.wb_port.specs.Talk.{Talk, dialogue, transfers_of}
 use Rattle.wb_port.specs.Run.{EndsAs}
-use Rattle.wb_law.specs.Course.{dialogue, StopsAs, Ran, Given, StopsBefore, StopsAfter, IsStop, transfers_of}
+use Rattle.wb_law.specs.Course.{StopsAs, Ran, Given, StopsBefore, StopsAfter, IsStop}
 
 -- A run has one end at most.
 abbrev pub RunsHaveOneEnd : Type 0

@@ -10,12 +10,11 @@ use Rattle.wb_port.specs.declared.chips.Chip.{Chip}
 use Rattle.wb_port.specs.declared.runs.Run.TheVariants.{Answered}
 use Rattle.wb_port.specs.Port.{access_reply}
 use Rattle.wb_port.specs.Schedule.{powered, talk, said}
-use Rattle.wb_port.specs.Talk.{Talk}
+use Rattle.wb_port.specs.Talk.{Talk, dialogue, IsTransfer}
 use Rattle.wb_port.specs.Dialogue.{Fits}
 use Rattle.wb_port.specs.Run.{EndsAs}
-use Rattle.wb_law.specs.Course.{dialogue, AsksAfter}
+use Rattle.wb_law.specs.Course.{AsksAfter}
 use Rattle.wb_port.specs.Verdicts.{Breaks, Differs}
-use Rattle.wb_port.specs.Points.{IsTransfer}
 use Rattle.wb_port.specs.Alike.{IsObedient, IsFaithful, AnswersAlike, NeverBreaches, EverySchedule}
 
 -- An obedient schedule is faithful where the held run of its own talk doesn't breach: then the plain run of

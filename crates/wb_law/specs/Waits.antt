@@ -6,7 +6,8 @@ use Rattle.wb_port.specs.declared.chips.Chip.{Chip}
 use Rattle.wb_port.specs.declared.runs.Run.TheVariants.{Answered}
 use Rattle.wb_port.specs.Schedule.{powered}
 use Rattle.wb_port.specs.Run.{EndsAs}
-use Rattle.wb_law.specs.Course.{dialogue, RestsAt, Given}
+use Rattle.wb_port.specs.Talk.{dialogue}
+use Rattle.wb_law.specs.Course.{RestsAt, Given}
 
 -- all of these accesses are given, and the held chip then comes to wait at a poll
 pub record WaitsAfter (image : Image) (k : ℕ) (accesses : List Access) (c d : Chip) : Type 0 where

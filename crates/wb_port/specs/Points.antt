@@ -3,31 +3,36 @@ use Rattle.std.specs.Prelude.{◌≡◌, ◌≢◌, ℕ, zero, suc, ◌≤◌, t
 use Rattle.wb_word.specs.declared.sides.Side.{Side}
 use Rattle.wb_word.specs.declared.sides.Side.TheVariants as side
 use Rattle.wb_rom.specs.declared.images.Image.{Image}
-use Rattle.wb_port.specs.declared.accesses.Access.{Access}
 use Rattle.wb_port.specs.declared.accesses.Access.TheVariants as access
+use Rattle.wb_port.specs.declared.accesses.Kind.{Kind}
 use Rattle.wb_port.specs.declared.accesses.Letter.{Letter}
 use Rattle.wb_port.specs.declared.accesses.Power.{Power}
+use Rattle.wb_port.specs.declared.chips.Chip.{Chip}
 use Rattle.wb_port.specs.declared.points.Point.{Point}
 use Rattle.wb_port.specs.declared.runs.Run.{Run}
 use Rattle.wb_port.specs.Port.{rqm, drs}
-use Rattle.wb_port.specs.Talk.{Talk, kinds}
+use Rattle.wb_port.specs.Talk.{Talk, IsTransfer, kinds}
 use Rattle.wb_port.specs.Dialogue.{Fits}
 use Rattle.wb_port.specs.Run.{Moment, Turn, Gives, Steps, Ends, turn, goes_on, turns, beginning}
 
--- the point of a moment
-abbrev pub point_of : Side → Moment → Point
-point_of s m =
+-- the point of a chip on a side, after data transfers of these kinds
+abbrev pub point_at : Side → List Kind → Chip → Point
+point_at s kinds c =
     record {
       side = s;
-      kinds = kinds m.given;
-      count = m.chip.monitor.count;
-      pc = m.chip.machine.regs.pc;
-      sp = m.chip.machine.regs.sp;
-      stack = m.chip.machine.stack;
-      asked = m.chip.monitor.asked;
-      rqm = rqm m.chip.machine;
-      drs = drs m.chip.machine;
+      kinds = kinds;
+      count = c.monitor.count;
+      pc = c.machine.regs.pc;
+      sp = c.machine.regs.sp;
+      stack = c.machine.stack;
+      asked = c.monitor.asked;
+      rqm = rqm c.machine;
+      drs = drs c.machine;
     }
+
+-- the point of a moment of a run
+abbrev pub point_of : Side → Moment → Point
+point_of s m = point_at s (kinds m.given) m.chip
 
 -- the held run of the dialogue passes the point; a status read leaves the point as it is
 abbrev pub Passes : Image → Side → ℕ → Talk → Point → Type 0
@@ -54,12 +59,6 @@ pub record IsTrail (image : Image) (s : Side) (k : ℕ) (d : Talk) (points : Lis
   pub end : Run
   pub ends : turn image k true (turns image k true last (beginning d)) ≡ Ends end
   pub list : points ≡ point_of s (beginning d) ∷ points_after image s k last (beginning d)
-
--- the dialogue has no status read
-abbrev pub IsTransfer : Access → Type 0
-IsTransfer access.Status = ⊥
-IsTransfer access.Read = Unit {0}
-IsTransfer (access.Write _) = Unit {0}
 
 -- the image of a side
 abbrev pub image_of : Image → Image → Side → Image
