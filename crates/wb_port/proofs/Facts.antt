@@ -3,13 +3,13 @@ use Rattle.std.proofs.Common.{refl, sym, ◌∙◌}
 use Rattle.wb_port.specs.declared.accesses.Access.TheVariants as access
 use Rattle.wb_port.specs.Port.{after_read, after_write, drc, drs}
 use Rattle.wb_port.specs.Wait.{word_of}
-use Rattle.wb_port.specs.Facts.{CalmWordsCommute, CalmWordsKeepThePort, OnlyRaisingWordsRequest, RaisingWordsRequest, RaisingWordsTouch, PollsRaiseNothing, PollsFollowPolls, GatesAreNear, PlacesComeNearer, TestsAreGates, LoopsHaveOneGate, IdleInstructionsMoveAlone, StatusReadsChangeNothing, AccessesRaiseNothing}
+use Rattle.wb_port.specs.Facts.{CalmWordsCommute, CalmWordsKeepThePort, OnlyRaisingWordsRequest, RaisingWordsRequest, RaisingWordsTouch, PollsRaiseNothing, PollsFollowPolls, GatesAreNear, PlacesComeNearer, TestsAreGates, GatesAreTests, LoopsHaveOneGate, IdleInstructionsMoveAlone, StatusReadsChangeNothing, AccessesRaiseNothing}
 use Rattle.wb_port.proofs.CalmAccess.{access_down}
 use Rattle.wb_port.proofs.CalmIdle.{idle_stepped}
 use Rattle.wb_port.proofs.CalmNext.{calm_next, calm_next_dr, calm_next_sr}
 use Rattle.wb_port.proofs.Circles.{follow_poll, poll_plain, nearer}
 use Rattle.wb_port.proofs.Circles.{gate_near as gate_below}
-use Rattle.wb_port.proofs.LoopsGate.{gate_here, gate_turned}
+use Rattle.wb_port.proofs.LoopsGate.{gate_here, gate_turned, gates_test}
 use Rattle.wb_port.proofs.Single.{next_keeps, next_raises, plain_calm}
 use Rattle.wb_port.proofs.Single.{raising_touches as word_touches}
 
@@ -59,3 +59,6 @@ status_changes_nothing image c = refl
 
 pub access_raises_nothing : AccessesRaiseNothing
 access_raises_nothing a m stands = access_down a m stands
+
+pub gates_are_tests : GatesAreTests
+gates_are_tests image at poll = gates_test image at poll

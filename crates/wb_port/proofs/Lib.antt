@@ -13,6 +13,7 @@ pub mod Passing
 pub mod Playing
 pub mod Promises
 pub mod Samples
+pub mod SharedLoops
 pub mod Single
 pub mod Starts
 pub mod Steady
