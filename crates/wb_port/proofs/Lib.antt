@@ -4,6 +4,7 @@ pub mod CalmNext
 pub mod CalmReads
 pub mod Circles
 pub mod Ends
+pub mod Fitting
 pub mod Facts
 pub mod Gates
 pub mod LoopsGate
@@ -11,6 +12,7 @@ pub mod Measure
 pub mod Passed
 pub mod Passing
 pub mod Playing
+pub mod Ranged
 pub mod Promises
 pub mod Samples
 pub mod SharedLoops
