@@ -7,6 +7,7 @@ pub mod Ends
 pub mod Fitting
 pub mod Facts
 pub mod Gates
+pub mod GoingOn
 pub mod LoopsGate
 pub mod Measure
 pub mod Passed

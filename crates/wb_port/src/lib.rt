@@ -33,7 +33,7 @@ pub use laws_fits::{
     transfers_are_left, transfers_join_in_order,
 };
 pub use laws_moments::{
-    applied_chips_follow, loops_are_one, loops_are_polls, loops_share_no_address, polls_begin_loops, requests_are_asked,
+    applied_chips_follow, loops_are_one, loops_are_polls, loops_share_no_address, points_go_on, polls_begin_loops, requests_are_asked,
     runs_come_to_an_end, trails_hold_the_points, worked_loops,
 };
 pub use laws_ranges::{accesses_keep_ranges, runs_keep_ranges, schedules_keep_ranges};
@@ -45,7 +45,7 @@ pub use laws_single::{
 };
 pub use lists::{Kinds, Replies};
 pub use loops::{follow, is_poll, is_test, raises, to_gate, touches};
-pub use points::{Point, Points};
+pub use points::{Point, Points, Shown};
 pub use port::{halfway, read, requested, status, write};
 pub use replays::replay;
 pub use runs::Run;
