@@ -47,7 +47,7 @@ pub use lists::{Kinds, Replies};
 pub use loops::{follow, is_poll, is_test, raises, to_gate, touches};
 pub use points::{Point, Points, Shown};
 pub use port::{halfway, read, requested, status, write};
-pub use replays::replay;
+pub use replays::{replay, replay_into};
 pub use runs::Run;
 pub use shapes::Shape;
 pub use talks::Dialogue;
