@@ -4,7 +4,6 @@ use mathlib.Core.Logic.◌⊎◌.{inl, inr}
 use Rattle.std.specs.Prelude.{slice_index_or}
 use Rattle.std.specs.List.{All, AllPairs, AllByRecursion, Contains}
 use Rattle.std.proofs.lemmas.List.Elements.{recursion_from_All}
-use Rattle.wb_law.specs.Points.{DifferentPointsAreNoMore}
 
 abbrev pub In : {X : Type 0} → X → List X → Type 0
 In x [] = ⊥
@@ -64,6 +63,3 @@ all_in (x ∷ xs) ys h = (contains_in ys x h.0, all_in xs ys h.1)
 
 pub no_more : {X : Type 0} → (xs ys : List X) → AllPairs (λ x y. x ≢ y) xs → All (Contains ys) xs → length xs ≤ length ys
 no_more xs ys d h = no_more_in xs ys (different_of xs d) (all_in xs ys (recursion_from_All (Contains ys) xs h))
-
-pub no_more_points : DifferentPointsAreNoMore
-no_more_points xs ys d h = no_more xs ys d h

@@ -202,7 +202,7 @@ module _ (facts : PortFacts) (image : Image) (k : ℕ) where
   strides_same zero c e = refl
   strides_same (suc j) c e = ap (strides image k true j) e ∙ strides_same j c e
 
-  strides_rise : (j : ℕ) (c : Chip) → IsInPace k c → rank_of image k c ≤ rank_of image k (strides image k true j c)
+  pub strides_rise : (j : ℕ) (c : Chip) → IsInPace k c → rank_of image k c ≤ rank_of image k (strides image k true j c)
   strides_rise zero c p = omega arith
   strides_rise (suc j) c p = go_by (stride_rank c p) (strides_rise j (stride image k true c) (stride_kept c p))
     where
@@ -219,7 +219,7 @@ module _ (facts : PortFacts) (image : Image) (k : ℕ) where
       go_by (inl s) h = sym (strides_same (suc j) c s)
       go_by (inr s) h = absurd (omega arith)
 
-  once : (i j : ℕ) (c : Chip) → IsInPace k c → rank_of image k (strides image k true i c) ≡ rank_of image k (strides image k true j c) → strides image k true i c ≡ strides image k true j c
+  pub once : (i j : ℕ) (c : Chip) → IsInPace k c → rank_of image k (strides image k true i c) ≡ rank_of image k (strides image k true j c) → strides image k true i c ≡ strides image k true j c
   once zero j c p e = strides_none j c p e
   once (suc i) zero c p e = sym (strides_none (suc i) c p (sym e))
   once (suc i) (suc j) c p e = once i j (stride image k true c) (stride_kept c p) e

@@ -114,7 +114,7 @@ kinds_append (access.Status ∷ xs) ys = kinds_append xs ys
 kinds_append (access.Read ∷ xs) ys = let e = kinds_append xs ys in cc
 kinds_append (access.Write b ∷ xs) ys = let e = kinds_append xs ys in cc
 
-kinds_stripped : (xs : List Access) → kinds (transfers_of xs) ≡ kinds xs
+pub kinds_stripped : (xs : List Access) → kinds (transfers_of xs) ≡ kinds xs
 kinds_stripped [] = refl
 kinds_stripped (access.Status ∷ xs) = kinds_stripped xs
 kinds_stripped (access.Read ∷ xs) = let e = kinds_stripped xs in cc

@@ -1,5 +1,5 @@
 -- Held chips and the points that they pass.
-use Rattle.std.specs.Prelude.{◌≡◌, ◌≢◌, ◌↔◌, ℕ, ◌≤◌, ◌<◌, true, false, None, List, [], ◌++◌, length, All, AllPairs, Contains}
+use Rattle.std.specs.Prelude.{◌≡◌, ◌↔◌, ℕ, ◌≤◌, ◌<◌, true, false, None, List, ◌++◌, All}
 use Rattle.wb_word.specs.declared.sides.Side.{Side}
 use Rattle.wb_rom.specs.declared.images.Image.{Image}
 use Rattle.wb_port.specs.declared.accesses.Access.{Access}
@@ -12,7 +12,7 @@ use Rattle.wb_port.specs.Schedule.{powered}
 use Rattle.wb_port.specs.Talk.{Talk, kinds, IsTransfer}
 use Rattle.wb_port.specs.Run.{is_waiting}
 use Rattle.wb_law.specs.Course.{strides, stop_of, Given}
-use Rattle.wb_port.specs.Points.{Passes, point_of}
+use Rattle.wb_port.specs.Points.{Passes, point_at}
 
 -- the chip is in pace, and a request that stands is asked
 pub record IsInPace (k : ℕ) (c : Chip) : Type 0 where
@@ -45,7 +45,7 @@ pub record PassesAfter (image : Image) (s : Side) (k : ℕ) (front : List Access
   pub after : Chip
   pub given : Given image k front c after
   pub steps : ℕ
-  pub point : point_of s (record { chip = strides image k true steps after; given = front; left = []; said = [] }) ≡ p
+  pub point : point_at s (kinds front) (strides image k true steps after) ≡ p
 
 -- the point is passed after the first of the accesses, as many as it has
 pub record PassesWithin (image : Image) (s : Side) (k : ℕ) (accesses : List Access) (c : Chip) (p : Point) : Type 0 where
@@ -67,9 +67,3 @@ LastPointsArePassedAfterAll =
     (image : Image) (s : Side) (k : ℕ) (d : Talk) (p : Point)
     → All IsTransfer d.accesses → p.kinds ≡ kinds d.accesses
     → Passes image s k d p ↔ PassesAfter image s k d.accesses (powered d.start) p
-
--- Points that are different from one another and stand in a list are no more than this list has.
-abbrev pub DifferentPointsAreNoMore : Type 0
-DifferentPointsAreNoMore =
-    (xs ys : List Point)
-    → AllPairs (λ x y. x ≢ y) xs → All (Contains ys) xs → length xs ≤ length ys

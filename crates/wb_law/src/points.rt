@@ -1,5 +1,5 @@
 //! Held chips, their ranks and their points.
-ghost use Rattle.wb_law.specs.Points.{HeldChipsStayInPace, RanksRise, RanksAreOnce, PointsArePassedAfterAccesses, LastPointsArePassedAfterAll, DifferentPointsAreNoMore};
+ghost use Rattle.wb_law.specs.Points.{HeldChipsStayInPace, RanksRise, RanksAreOnce, PointsArePassedAfterAccesses, LastPointsArePassedAfterAll};
 
 use crate::facts::port_facts;
 
@@ -32,9 +32,4 @@ pub fn points_are_passed_after_accesses()
 /// A held run without status reads passes a point with all of its kinds exactly where the held chip does after the last access.
 pub fn last_points_are_passed_after_all()
     ensures { LastPointsArePassedAfterAll }
-{}
-
-/// Points that are different from one another and stand in a list are no more than this list has.
-pub fn different_points_are_no_more()
-    ensures { DifferentPointsAreNoMore }
 {}

@@ -1,5 +1,5 @@
 -- Points: what an explorer tells apart of the moments of held runs.
-use Rattle.std.specs.Prelude.{◌≡◌, ◌≢◌, ℕ, zero, suc, true, List, [], ◌∷◌, ◌++◌, All, AllPairs, Contains}
+use Rattle.std.specs.Prelude.{◌≡◌, ◌≢◌, ℕ, zero, suc, ◌≤◌, true, List, [], ◌∷◌, ◌++◌, length, All, AllPairs}
 use Rattle.wb_word.specs.declared.sides.Side.{Side}
 use Rattle.wb_word.specs.declared.sides.Side.TheVariants as side
 use Rattle.wb_rom.specs.declared.images.Image.{Image}
@@ -65,15 +65,25 @@ abbrev pub image_of : Image → Image → Side → Image
 image_of a b side.A = a
 image_of a b side.B = b
 
--- the held run of some fitting dialogue without status reads passes the point, on its side
-pub record IsReached (a b : Image) (n k : ℕ) (shape : List Letter) (power : Power) (p : Point) : Type 0 where
+-- the held run of some fitting dialogue without status reads passes the point, on this side
+pub record IsReachedOn (image : Image) (s : Side) (n k : ℕ) (shape : List Letter) (power : Power) (p : Point) : Type 0 where
   pub dialogue : Talk
   pub fits : Fits n shape power dialogue
   pub transfers : All IsTransfer dialogue.accesses
-  pub passes : Passes (image_of a b p.side) p.side k dialogue p
+  pub passes : Passes image s k dialogue p
 
--- the list of the reached points, without repeats
-pub record IsReachedList (a b : Image) (n k : ℕ) (shape : List Letter) (power : Power) (points : List Point) : Type 0 where
-  pub different : AllPairs (λ x y. x ≢ y) points
-  pub each : All (IsReached a b n k shape power) points
-  pub whole : (p : Point) → IsReached a b n k shape power p → Contains points p
+-- the point is reached on its own side
+abbrev pub IsReached : Image → Image → ℕ → ℕ → List Letter → Power → Point → Type 0
+IsReached a b n k shape power p = IsReachedOn (image_of a b p.side) p.side n k shape power p
+
+-- no more than p values that differ from one another have the property
+abbrev pub AtMost : {A : Type 0} → (A → Type 0) → ℕ → Type 0
+AtMost {A} P p = (xs : List A) → AllPairs (λ x y. x ≢ y) xs → All P xs → length xs ≤ p
+
+-- at most p points are reached on this side
+abbrev pub ReachedAtMostOn : Image → Side → ℕ → ℕ → List Letter → Power → ℕ → Type 0
+ReachedAtMostOn image s n k shape power p = AtMost (IsReachedOn image s n k shape power) p
+
+-- at most p points are reached, on both sides together
+abbrev pub ReachedAtMost : Image → Image → ℕ → ℕ → List Letter → Power → ℕ → Type 0
+ReachedAtMost a b n k shape power p = AtMost (IsReached a b n k shape power) p
