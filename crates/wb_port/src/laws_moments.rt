@@ -4,6 +4,7 @@ ghost use Rattle.wb_rom.specs.declared.images.Image.{Image};
 ghost use Rattle.wb_port.specs.Endings.{LoopsArePolls, PollsBeginLoops, LoopsAreOne, LoopsShareNoAddress};
 ghost use Rattle.wb_port.specs.Endings.{RequestsAreAsked, AppliedChipsFollow, RunsComeToAnEnd};
 ghost use Rattle.wb_port.specs.Endings.{TrailsHoldThePoints};
+ghost use Rattle.wb_port.specs.NextPoint.{PointsGoOn};
 ghost use Rattle.wb_port.specs.Worked.{WorkedLoops};
 
 /// Each address of a wait loop begins it too, and is a poll.
@@ -44,6 +45,11 @@ pub fn runs_come_to_an_end()
 /// The points of a trail are those that the held run passes.
 pub fn trails_hold_the_points()
     ensures { TrailsHoldThePoints }
+{}
+
+/// A point goes on by what it was and by what the machine shows then.
+pub fn points_go_on()
+    ensures { PointsGoOn }
 {}
 
 /// The wait loops of five programs, as the definitions have them.

@@ -10,7 +10,9 @@
 
 mod accesses;
 mod chips;
+mod laws_fits;
 mod laws_moments;
+mod laws_ranges;
 mod laws_single;
 mod lists;
 mod loops;
@@ -26,10 +28,15 @@ mod trails;
 
 pub use accesses::{Access, Event, Kind, Letter, Power};
 pub use chips::{Chip, Monitor};
+pub use laws_fits::{
+    fronts_fit, lasts_may_be_status, status_reads_always_fit, status_reads_have_no_kind,
+    transfers_are_left, transfers_join_in_order,
+};
 pub use laws_moments::{
-    applied_chips_follow, loops_are_one, loops_are_polls, loops_share_no_address, polls_begin_loops, requests_are_asked,
+    applied_chips_follow, loops_are_one, loops_are_polls, loops_share_no_address, points_go_on, polls_begin_loops, requests_are_asked,
     runs_come_to_an_end, trails_hold_the_points, worked_loops,
 };
+pub use laws_ranges::{accesses_keep_ranges, runs_keep_ranges, schedules_keep_ranges};
 pub use laws_single::{
     accesses_raise_nothing, calm_words_commute, calm_words_keep_the_port, gates_are_near, gates_are_tests,
     idle_instructions_move_alone, loops_have_one_gate, only_raising_words_request,
@@ -38,9 +45,9 @@ pub use laws_single::{
 };
 pub use lists::{Kinds, Replies};
 pub use loops::{follow, is_poll, is_test, raises, to_gate, touches};
-pub use points::{Point, Points};
+pub use points::{Point, Points, Shown};
 pub use port::{halfway, read, requested, status, write};
-pub use replays::replay;
+pub use replays::{replay, replay_into};
 pub use runs::Run;
 pub use shapes::Shape;
 pub use talks::Dialogue;
