@@ -18,7 +18,7 @@ use Rattle.wb_port.specs.declared.runs.Run.{Run}
 use Rattle.wb_port.specs.declared.runs.Run.TheVariants.{Answered}
 use Rattle.wb_port.specs.Port.{rqm}
 use Rattle.wb_port.specs.Wait.{is_poll, follow_times}
-use Rattle.wb_port.specs.Monitor.{place, is_breach}
+use Rattle.wb_port.specs.Monitor.{place}
 use Rattle.wb_port.specs.Schedule.{powered, applied}
 use Rattle.wb_port.specs.Talk.{Talk, IsByteAccess, kinds, dialogue, transfers_of, IsTransfer}
 use Rattle.wb_port.specs.Dialogue.{Fits, AllowsEach}
@@ -27,21 +27,16 @@ use Rattle.wb_law.specs.Course.{stop_of, strides, RestsAt, Given}
 use Rattle.wb_port.specs.Points.{point_of, point_at}
 use Rattle.wb_law.specs.Points.{PassesAfter}
 use Rattle.wb_port.specs.Executes.{Executes}
-use Rattle.wb_law.specs.Addresses.{stop_at, PointsTellWhatComes, Shows, IsShown, ExecutedAddressesAreShown, ShownAddressesAreExecuted, ReachedPointsShowTheExecuted}
+use Rattle.wb_law.specs.declared.classes.Class.TheVariants.{Rests, GoesOn}
+use Rattle.wb_law.specs.Addresses.{Shows, IsShown, ExecutedAddressesAreShown, ShownAddressesAreExecuted, ReachedPointsShowTheExecuted}
 use Rattle.wb_law.proofs.Turns.{moment, gives, waits}
 use Rattle.wb_law.proofs.Stops.{strides_then, rests_then}
 use Rattle.wb_law.proofs.Eager.{not_stopped}
 use Rattle.wb_law.proofs.Ranks.{on_the_way}
 use Rattle.wb_law.proofs.Replies.{kinds_append, kinds_stripped, all_transfers}
 use Rattle.wb_law.proofs.HeldPoints.{points_after_accesses, last_points}
+use Rattle.wb_law.proofs.Telling.{points_tell_what_comes}
 use Rattle.wb_law.proofs.Moments.{IsAfter, leads, comes_all, silent_as, held_as}
-
-stop_is : (image : Image) (k : ℕ) (s : Side) (ks : List Kind) (c : Chip) → stop_at image k (point_at s ks c) ≡ stop_of image k c
-unfolding stop_at stop_of is_breach
-stop_is image k s ks c = refl
-
-pub points_tell_what_comes : PointsTellWhatComes
-points_tell_what_comes image k s ks c = record { rests = refl; stops = stop_is image k s ks c }
 
 module _ (image : Image) (k : ℕ) where
   -- a held chip that executes an instruction neither waits nor stops
@@ -134,12 +129,12 @@ executed_addresses_are_shown image s k d at h = go_by h
         let m = turns image k true x.before (beginning d) in
         let w = works_of image k m.left m.given m.chip m.said x.next x.executes in
         shown image s k d at m (leads image k x.before d.accesses [] (powered d.start) [])
-        (inl (record { works = w.0; unstopped = stop_is image k s (kinds m.given) m.chip ∙ w.1; place = x.place }))
+        (inl (record { class = (points_tell_what_comes image k s (kinds m.given) m.chip GoesOn).1 w; place = x.place }))
     go_by (inr x) =
         let m = turns image k true x.before (beginning d) in
         let w = waits_of image k m.left m.given m.chip m.said x.replies x.answered in
         shown image s k d at m (leads image k x.before d.accesses [] (powered d.start) [])
-        (inr (record { rests = w.1; follows = x.follows; few = x.few; place = x.place }))
+        (inr (record { class = (points_tell_what_comes image k s (kinds m.given) m.chip Rests).1 w.1; follows = x.follows; few = x.few; place = x.place }))
 
 -- a chip that the held one comes to after all accesses executes what it shows
 executed : (image : Image) (s : Side) (k : ℕ) (start : List ℕ) (l : List Access) (p : Point) (at : ℕ) → PassesAfter image s k l (powered start) p → Shows image k p at → Executes image (dialogue start l) k at
@@ -154,13 +149,13 @@ executed image s k start l p at h show =
     go_by said (j, e) (inl g) = inl (record {
       before = j;
       next = _;
-      executes = ap (turn image k true) e ∙ held_as image k l c said None g.works (sym (stop_is image k s (kinds l) c) ∙ g.unstopped);
+      executes = let w = (points_tell_what_comes image k s (kinds l) c GoesOn).0 g.class in ap (turn image k true) e ∙ held_as image k l c said None w.0 w.1;
       place = ap (λ (m : Moment). place m.chip) e ∙ g.place;
     })
     go_by said (j, e) (inr g) = inr (record {
       before = j;
       replies = said;
-      answered = ap (turn image k true) e ∙ waits image k c l said g.rests;
+      answered = ap (turn image k true) e ∙ waits image k c l said ((points_tell_what_comes image k s (kinds l) c Rests).0 g.class);
       follows = g.follows;
       few = g.few;
       place = ap (λ (m : Moment). follow_times image g.follows (place m.chip)) e ∙ g.place;

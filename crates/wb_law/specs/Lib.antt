@@ -1,4 +1,5 @@
 pub mod Addresses
+pub mod Classes
 pub mod Counts
 pub mod Course
 pub mod Points
@@ -8,4 +9,5 @@ pub mod Requests
 pub mod Runs
 pub mod Schedules
 pub mod Strides
+pub mod Values
 pub mod Waits

@@ -1,10 +1,5 @@
 //! The addresses that held runs execute, by their points.
-ghost use Rattle.wb_law.specs.Addresses.{PointsTellWhatComes, ExecutedAddressesAreShown, ShownAddressesAreExecuted, ReachedPointsShowTheExecuted};
-
-/// The point of a moment tells whether its held chip rests, and how it stops.
-pub fn points_tell_what_comes()
-    ensures { PointsTellWhatComes }
-{}
+ghost use Rattle.wb_law.specs.Addresses.{ExecutedAddressesAreShown, ShownAddressesAreExecuted, ReachedPointsShowTheExecuted};
 
 /// Each executed address is shown by a point.
 pub fn executed_addresses_are_shown()

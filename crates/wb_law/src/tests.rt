@@ -20,7 +20,7 @@ const LOOP: &[u32] = &[
 ];
 
 // A byte is given back, and the chip waits for it in a loop of eight words.
-const EIGHT_WORDS: &[u32] = &[
+pub(crate) const EIGHT_WORDS: &[u32] = &[
     0xC10007, 0x000080, 0, 0, 0, 0, 0, 0, 0, 0x97C008, 0x000091, 0x000016, 0x97C030, 0xA00004,
 ];
 
@@ -43,7 +43,7 @@ const HALVES: [Turn; 4] = [
 ];
 
 /// The image with these words, and zeros after them.
-fn image_of(alloc: Global, words: &[u32]) -> Result<Image, Fail> {
+pub(crate) fn image_of(alloc: Global, words: &[u32]) -> Result<Image, Fail> {
     let mut bytes = Vec::new(alloc);
     for word in words {
         bytes.extend_from_slice(&word.to_le_bytes()[..3])?;
