@@ -127,12 +127,7 @@ fn lazy_course(
 }
 
 /// What such a host hears: a status byte for each look while the request stands, and what the accesses give.
-fn bytes_heard(
-    alloc: Global,
-    turns: &[Turn],
-    lazy: u32,
-    looks: bool,
-) -> Result<Vec<u8>, Fail> {
+fn bytes_heard(alloc: Global, turns: &[Turn], lazy: u32, looks: bool) -> Result<Vec<u8>, Fail> {
     let mut bytes = Vec::new(alloc);
     for (_, status, reply) in turns {
         if looks {
