@@ -7,6 +7,7 @@ pub mod Executing
 pub mod Faithful
 pub mod FreshRequests
 pub mod HeldPoints
+pub mod InRange
 pub mod Least
 pub mod Moments
 pub mod Pigeon

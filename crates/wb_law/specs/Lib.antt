@@ -4,6 +4,7 @@ pub mod Counts
 pub mod Course
 pub mod Points
 pub mod PortFacts
+pub mod Ranges
 pub mod Reached
 pub mod Requests
 pub mod Runs

@@ -11,6 +11,7 @@
 //! - `requests`: the chips at which accesses are given, and what the observer shows there.
 //! - `strides`: where the strides of a chip lead, and that they lead there in one way.
 //! - `points`: held chips, the rank that each instruction raises, and the points that a held run passes.
+//! - `ranges`: a chip on its way from one access to the next is in its ranges.
 //! - `classes`: what a held chip does next, and its rank, by its point: the two calls of this crate.
 //! - `reached`: how many points the held runs of all fitting dialogues pass.
 //! - `waits` and `addresses`: where held runs are answered, and which addresses they execute.
@@ -25,6 +26,7 @@ mod classes;
 mod counts;
 mod facts;
 mod points;
+mod ranges;
 mod reached;
 mod requests;
 mod runs;
@@ -47,6 +49,7 @@ pub use points::{
     held_chips_stay_in_pace, last_points_are_passed_after_all, points_are_passed_after_accesses,
     ranks_are_once, ranks_rise,
 };
+pub use ranges::striding_chips_stay_in_range;
 pub use reached::{
     bounds_hold_of_each_side, bounds_of_sides_add_up, greater_bounds_hold,
     greater_bounds_hold_of_a_side, lists_bound_points_of_a_side, lists_bound_reached_points,

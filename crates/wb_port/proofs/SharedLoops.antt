@@ -45,8 +45,7 @@ crossed image at m other place y l here there h =
     let j = there.0 in
     let t = h.0 in
     let again : follow_times image (m * i - i) place ≡ at =
-    subst (λ (x : ℕ). follow_times image (m * i - i) x ≡ at) here.1 (first_again image at m i l) in
-    (
+    subst (λ (x : ℕ). follow_times image (m * i - i) x ≡ at) here.1 (first_again image at m i l) in (
       j + ((m * i - i) + t),
       follow_sum image j ((m * i - i) + t) other
           ∙ ap (follow_times image ((m * i - i) + t)) there.1
