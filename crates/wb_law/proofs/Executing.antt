@@ -1,17 +1,15 @@
 -- The addresses that held runs execute, and how points show them.
-use Rattle.std.proofs.Common.{◌≡◌, ℕ, ◌+◌, Bool, true, false, Option, Some, None, List, [], ◌∷◌, ◌++◌, length, length-append, refl, sym, ap, subst, ◌∙◌, arith}
+use Rattle.std.proofs.Common.{◌≡◌, ℕ, Bool, true, false, Option, Some, None, List, [], ◌∷◌, ◌++◌, refl, sym, ap, subst, ◌∙◌}
 use mathlib.Core.Logic.◌⊎◌.{inl, inr}
 use Rattle.std.specs.List.{AllByRecursion}
 use Rattle.std.proofs.lemmas.Bool.{and_left}
-use Rattle.std.proofs.lemmas.List.Elements.{recursion_from_All, All-from_recursion}
+use Rattle.std.proofs.lemmas.List.Elements.{All-from_recursion}
 use Rattle.wb_word.specs.declared.sides.Side.{Side}
 use Rattle.wb_rom.specs.declared.images.Image.{Image}
 use Rattle.wb_port.specs.declared.accesses.Access.{Access}
 use Rattle.wb_port.specs.declared.accesses.Access.TheVariants as access
 use Rattle.wb_port.specs.declared.accesses.Event.TheVariants as event
 use Rattle.wb_port.specs.declared.accesses.Kind.{Kind}
-use Rattle.wb_port.specs.declared.accesses.Letter.{Letter}
-use Rattle.wb_port.specs.declared.accesses.Power.{Power}
 use Rattle.wb_port.specs.declared.chips.Chip.{Chip}
 use Rattle.wb_port.specs.declared.points.Point.{Point}
 use Rattle.wb_port.specs.declared.runs.Run.{Run}
@@ -20,8 +18,8 @@ use Rattle.wb_port.specs.Port.{rqm}
 use Rattle.wb_port.specs.Wait.{is_poll, follow_times}
 use Rattle.wb_port.specs.Monitor.{place}
 use Rattle.wb_port.specs.Schedule.{powered, applied}
-use Rattle.wb_port.specs.Talk.{Talk, IsByteAccess, kinds, dialogue, transfers_of, IsTransfer}
-use Rattle.wb_port.specs.Dialogue.{Fits, AllowsEach}
+use Rattle.wb_port.specs.Talk.{Talk, kinds, dialogue, transfers_of, IsTransfer}
+use Rattle.wb_port.specs.Dialogue.{Fits}
 use Rattle.wb_port.specs.Run.{Moment, Steps, Ends, is_waiting, turn, turns, beginning}
 use Rattle.wb_law.specs.Course.{stop_of, strides, RestsAt, Given}
 use Rattle.wb_port.specs.Points.{point_of, point_at}
@@ -34,7 +32,7 @@ use Rattle.wb_law.proofs.Turns.{moment, gives, waits}
 use Rattle.wb_law.proofs.Stops.{strides_then, rests_then}
 use Rattle.wb_law.proofs.Eager.{not_stopped}
 use Rattle.wb_law.proofs.Ranks.{on_the_way}
-use Rattle.wb_law.proofs.Replies.{kinds_append, kinds_stripped, all_transfers}
+use Rattle.wb_law.proofs.Replies.{kinds_stripped, all_transfers}
 use Rattle.wb_law.proofs.HeldPoints.{points_after_accesses, last_points}
 use Rattle.wb_law.proofs.Telling.{points_tell_what_comes}
 use Rattle.wb_law.proofs.Moments.{IsAfter, leads, comes_all, silent_as, held_as}
