@@ -12,7 +12,7 @@ use Rattle.wb_port.specs.declared.points.Point.{Point}
 use Rattle.wb_port.specs.declared.points.Shown.{Shown}
 use Rattle.wb_port.specs.Port.{rqm, drs}
 use Rattle.wb_port.specs.Wait.{raises_request, word_of}
-use Rattle.wb_port.specs.Monitor.{count_after, idles_at, leaves_at, stepped}
+use Rattle.wb_port.specs.Monitor.{count_after, idles_at, leaves_at}
 use Rattle.wb_port.specs.Schedule.{applied}
 use Rattle.wb_port.specs.Points.{point_at}
 

@@ -1,4 +1,4 @@
-use Rattle.std.proofs.Common.{◌≡◌, ◌∙◌, ap, sym}
+use Rattle.std.proofs.Common.{◌∙◌, ap, sym}
 use Rattle.wb_port.specs.Run.{Ends, turn}
 use Rattle.wb_port.proofs.Playing.{begins, goes_next, lasts}
 use Rattle.wb_port.proofs.replays.replay_into.Goals as goal

@@ -1,4 +1,4 @@
-use Rattle.std.proofs.Common.{◌<◌, ◌≤◌, All, length, subst, arith}
+use Rattle.std.proofs.Common.{◌≤◌, All, length, subst, arith}
 use Rattle.std.proofs.lemmas.List.{take_all}
 use Rattle.std.proofs.lemmas.List.Elements.{All-more}
 use Rattle.wb_port.specs.declared.accesses.Access.TheVariants as access

@@ -1,6 +1,6 @@
 use Rattle.std.proofs.Common.{◌+◌, ◌≤◌, length}
 use Rattle.wb_script.proofs.ReadLemmas.{Progress}
-use Rattle.wb_script.proofs.reader.read_script.Given as goal
+use Rattle.wb_script.proofs.reader.read_lines.Given as goal
 
 abbrev pub invariant-loop-rest : goal.invariant-loop-rest
 invariant-loop-rest l = record {

@@ -1,12 +1,12 @@
 use Rattle.std.proofs.Common.{refl, arith}
 use Rattle.wb_script.proofs.ReadLemmas.{begin, advance, refused_by, handed_on}
-use Rattle.wb_script.proofs.reader.read_script.Goals as goal
+use Rattle.wb_script.proofs.reader.read_lines.Goals as goal
 
 pub loop-rest-init : goal.loop-rest-init
-loop-rest-init c = record { progress = begin _ _ _ c.new.ensures.items refl; short = omega arith }
+loop-rest-init c = record { progress = begin _ _ _ c.requires.empty refl; short = omega arith }
 
-pub returns-in_err-read-clause-fault : goal.returns-in_err-read-clause-fault
-returns-in_err-read-clause-fault c =
+pub returns-in_err-read-clause-line : goal.returns-in_err-read-clause-line
+returns-in_err-read-clause-line c =
     let before = c.loop-rest.reader in
     handed_on c.from_residual.result c.in_err-read.field-0.0 c.args.text.now c.from_residual.ensures.1
     (refused_by c.args.text.now c.loop-rest.rest.now c.split_line.result.0.now c.split_line.result.1.now c.loop-rest.line before.items.items before.opening
