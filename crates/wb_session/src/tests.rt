@@ -5,7 +5,6 @@ use std::test::Fail;
 use wb_rom::Image;
 use wb_script::Item::{Read, Status, Step, Wait, Write};
 use wb_script::{Item, Script};
-use wb_word::Rom;
 
 /// Sends back each byte that it is sent.
 const ECHO: [u32; 7] = [
@@ -16,13 +15,12 @@ const ECHO: [u32; 7] = [
 const WIDE: [u32; 6] = [0x000080, 0x97C004, 0x000091, 0x000016, 0x97C010, 0xA00000];
 
 fn image_of(rt: &impl Abort, alloc: Global, words: &[u32]) -> Result<Image, Fail> {
-    let mut prog = Rom::zero(alloc)?;
+    let mut image = Image::zero(alloc)?;
     for (place, word) in words.iter().enumerate() {
         assert!(rt; place < 2048 && *word < 0x100_0000);
-        prog.set(place, *word);
+        image.prog.set(place, *word);
     }
-    let drom = Rom::zero(alloc)?;
-    Ok(Image { prog, drom })
+    Ok(image)
 }
 
 #[test]
@@ -92,15 +90,21 @@ fn runs(rt: HostRuntime) -> Result<(), Fail> {
 
 #[test]
 fn leaves_the_machine(rt: HostRuntime) -> Result<(), Fail> {
-    let image = image_of(&rt, rt.alloc(), &WIDE)?;
-    // A read without a request leaves DRS alone, and a wait without a request has executed its instructions.
-    for (items, counter, sr) in [([Read], 0, 0), ([Step(1)], 1, 0x8000), ([Wait(0)], 0, 0)] {
-        let script = Script::from_items(items.to_vec(rt.alloc())?);
+    // A read without a request leaves DRS alone, and a wait that ends silent has executed its instructions.
+    let cases: [(&[u32], Item, u16, u16); 4] = [
+        (&WIDE, Read, 0, 0),
+        (&WIDE, Step(1), 1, 0x8000),
+        (&ECHO, Wait(1), 1, 0x0400),
+        (&ECHO, Wait(9), 2, 0x8400),
+    ];
+    for (words, item, counter, sr) in cases {
+        let image = image_of(&rt, rt.alloc(), words)?;
+        let script = Script::from_items([item].to_vec(rt.alloc())?);
         assert!(rt; script.len() <= 65536);
         let session = play_script(rt.alloc(), &image, &script)?;
         let regs = session.machine.regs();
-        assert_eq!(rt; regs.pc, counter);
-        assert_eq!(rt; regs.sr, sr);
+        assert_eq!(rt; regs.pc, counter, "at {item:?}");
+        assert_eq!(rt; regs.sr, sr, "at {item:?}");
     }
     Ok(())
 }
