@@ -5,6 +5,7 @@ use std::test::Fail;
 use wb_rom::Image;
 use wb_script::Item::{Read, Status, Step, Wait, Write};
 use wb_script::{Item, Script};
+use wb_word::Rom;
 
 /// Sends back each byte that it is sent.
 const ECHO: [u32; 7] = [
@@ -15,12 +16,13 @@ const ECHO: [u32; 7] = [
 const WIDE: [u32; 6] = [0x000080, 0x97C004, 0x000091, 0x000016, 0x97C010, 0xA00000];
 
 fn image_of(rt: &impl Abort, alloc: Global, words: &[u32]) -> Result<Image, Fail> {
-    let mut image = Image::zero(alloc)?;
+    let mut prog = Rom::zero(alloc)?;
     for (place, word) in words.iter().enumerate() {
         assert!(rt; place < 2048 && *word < 0x100_0000);
-        image.prog.set(place, *word);
+        prog.set(place, *word);
     }
-    Ok(image)
+    let drom = Rom::zero(alloc)?;
+    Ok(Image { prog, drom })
 }
 
 #[test]
