@@ -1,9 +1,9 @@
 -- The way from a poll to the test of its loop; loops are one.
-use Rattle.std.proofs.Common.{◌≡◌, ℕ, zero, suc, ◌+◌, ◌<◌, inl, inr, true, false, refl, sym, ◌∙◌, ap, subst, arith}
+use Rattle.std.proofs.Common.{◌≡◌, ℕ, suc, ◌+◌, ◌<◌, inl, inr, true, false, refl, sym, ◌∙◌, ap, subst, arith}
 use Rattle.std.proofs.lemmas.Bool.{cases_order, both_ways}
 use Rattle.wb_rom.specs.declared.images.Image.{Image}
-use Rattle.wb_port.specs.Wait.{is_test, is_poll, word_of, follow, follow_times, to_gate}
-use Rattle.wb_port.proofs.Circles.{IsWaitLoop, is_loop_of, turned_loop, loop_poll, follow_poll, nearer, gate_near}
+use Rattle.wb_port.specs.Wait.{is_test, is_poll, word_of, follow, to_gate}
+use Rattle.wb_port.proofs.Circles.{IsWaitLoop, is_loop_of, follow_poll, nearer, gate_near}
 use Rattle.wb_port.proofs.Walks.{returned_before}
 
 pub at_gate : (image : Image) (at : ℕ) → is_test (word_of image at) ≡ true → to_gate image at ≡ 0
@@ -40,11 +40,6 @@ way_ends image at here words w h =
     let z : to_gate image here ≡ 0 = at_gate image here h in
     let s : words + to_gate image here ≡ to_gate image at = w.sum in
     omega arith
-
--- each address of a loop is a poll
-pub loop_places : (image : Image) (m j at : ℕ) → IsWaitLoop image at m → is_poll image (follow_times image j at) ≡ true
-loop_places image m zero at l = loop_poll image at m l
-loop_places image m (suc j) at l = loop_places image m j (follow image at) (turned_loop image at m l)
 
 -- an address begins one loop at most
 pub one_loop : (image : Image) (at m n : ℕ) → IsWaitLoop image at m → IsWaitLoop image at n → m ≡ n

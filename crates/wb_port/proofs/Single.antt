@@ -11,10 +11,18 @@ use Rattle.wb_word.specs.declared.words.Instr.{Instr}
 use Rattle.wb_word.specs.declared.words.Instr.TheVariants.{Op, Rt, Jp, Ld}
 use Rattle.wb_rom.specs.declared.images.Image.{Image}
 use Rattle.wb_machine.specs.State.{State}
-use Rattle.wb_machine.specs.Next.{next, instr_at, raised_by, carried, raised, merged, moved_sr, sr_after, pc_after, taken}
-use Rattle.wb_machine.proofs.ByRegister.{next-sr, next-pc}
+use Rattle.wb_machine.specs.Next.{next, next_by, regs_after, instr_at, raised_by, carried, raised, merged, moved_sr, sr_after, pc_after, taken}
 use Rattle.wb_port.specs.Port.{rqm}
 use Rattle.wb_port.specs.Wait.{src_touches, dst_touches, src_raises, dst_raises, instr_touches, instr_raises, instr_tests, instr_is_plain_jump, instr_follow, touches, raises_request, is_test, is_plain, follow, word_of}
+
+-- PC and the status register after an instruction
+next-pc : (image : Image) (s : State) → (next image s).regs.pc ≡ pc_after (instr_at image s) s
+unfolding next next_by regs_after
+next-pc image s = refl
+
+next-sr : (image : Image) (s : State) → (next image s).regs.sr ≡ sr_after (instr_at image s) image s
+unfolding next next_by regs_after
+next-sr image s = refl
 
 -- bit 15 of a status register
 abbrev pub top : ℕ → Bool
