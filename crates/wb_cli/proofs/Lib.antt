@@ -1,1 +1,4 @@
-mod RunLemmas
+mod Holding
+mod Once
+mod Valid
+pub mod Checked

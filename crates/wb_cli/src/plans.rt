@@ -2,9 +2,10 @@
 ghost use Rattle.std.specs.Prelude.{◌≡◌, [], ◌∷◌, map, string_bytes};
 ghost use Rattle.std.specs.Option.{option_map};
 ghost use Rattle.wb_cli.specs.Plan.{plan_of, run_of};
-ghost use Rattle.wb_cli.specs.Planned.{command_of};
+ghost use Rattle.wb_cli.specs.Planned.{plan_in};
 
 /// What the words after the program's name ask for.
+#[derive(Clone, Copy)]
 pub enum Plan<'a> {
     /// Runs a script on an image; the two file words.
     Run(&'a str, &'a str),
@@ -12,7 +13,7 @@ pub enum Plan<'a> {
 
 /// The plan of the words, or `None` where they are no command line of this program.
 pub fn planned(words: &[String]) -> Option<Plan<'_>>
-    ensures { option_map command_of result ≡ plan_of (map string_bytes words.now) }
+    ensures { option_map plan_in result ≡ plan_of (map string_bytes words.now) }
 {
     match words {
         [command, image, script] if command.as_str() == "run" => run_plan(
@@ -25,7 +26,7 @@ pub fn planned(words: &[String]) -> Option<Plan<'_>>
 
 /// A plan for `run`, unless a file word is empty.
 fn run_plan<'a>(image: &'a str, script: &'a str) -> Option<Plan<'a>>
-    ensures { option_map command_of result ≡ run_of (image.now ∷ script.now ∷ []) }
+    ensures { option_map plan_in result ≡ run_of (image.now ∷ script.now ∷ []) }
 {
     if image.is_empty() || script.is_empty() {
         None
