@@ -1,0 +1,5 @@
+pub mod Addresses
+pub mod Lists
+pub mod Follow
+pub mod Reading
+pub mod Texts
