@@ -81,3 +81,10 @@ IsFirstBad text line = (place : ℕ) × (line ≡ place + 1) × IsBadAt (map mov
 abbrev pub IsFaultOf : List ℕ → MovesFault → Type 0
 IsFaultOf text (BadLine line) = IsFirstBad text line
 IsFaultOf text OutOfMemory = ⊤
+
+-- Every text is a moves file or has a first bad line, and never both; its moves or that line are determined.
+pub record EachTextHasOneAnswer : Type 0 where
+  pub some : (text : List ℕ) → ((moves : List Move) × AreMovesOf text moves) ⊎ ((line : ℕ) × IsFirstBad text line)
+  pub never_both : (text : List ℕ) (moves : List Move) (line : ℕ) → AreMovesOf text moves → IsFirstBad text line → ⊥
+  pub one_list : (text : List ℕ) (moves others : List Move) → AreMovesOf text moves → AreMovesOf text others → moves ≡ others
+  pub one_line : (text : List ℕ) (line other : ℕ) → IsFirstBad text line → IsFirstBad text other → line ≡ other

@@ -14,13 +14,15 @@ mod laws;
 mod moves;
 mod reader;
 mod reports;
+#[cfg(test)]
+mod tests;
 mod traces;
 
 pub use answers::{Line, Moved};
 pub use chips::Chips;
 pub use digits::LineText;
-pub use laws::traces_follow_their_moves;
+pub use laws::{each_text_has_one_answer, traces_follow_their_moves, undos_give_back};
 pub use moves::{Move, Moves};
 pub use reader::{MovesFault, read_moves};
-pub use reports::{report, trace_text};
+pub use reports::{MOVE_BYTES, report, trace_text};
 pub use traces::Trace;

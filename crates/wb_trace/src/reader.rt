@@ -128,7 +128,6 @@ fn read_into(moves: &mut Vec<Move>, text: &[u8]) -> Result<(), u32>
 
 /// Reads a moves file: its moves, or the first line that is bad. The memory for all lines is taken first.
 pub fn read_moves(alloc: Global, text: &[u8]) -> Result<Moves, MovesFault>
-    requires { length text.now ≤ 1048576 }
     ensures moves { IfOk result (AreMovesOf text.now) }
     ensures fault { IfErr result (IsFaultOf text.now) }
 {

@@ -12,7 +12,7 @@ use wb_rom::Image;
 use wb_word::OutOfMemory;
 
 /// The most bytes that a move takes with its line feeds: those of the registers of both sides.
-const MOVE_BYTES: usize = 56;
+pub const MOVE_BYTES: usize = 56;
 
 /// The bytes of the last line.
 const END: &[u8] = b"DONE\n";
