@@ -1,7 +1,7 @@
 ghost use Rattle.std.specs.Prelude.{◌≡◌, true, false};
 ghost use Rattle.wb_alu.specs.Operation.{flags_after};
 
-/// The six flags of an accumulator, as the instruction before left them.
+/// The six flags of an accumulator, as the last instruction that computed in it left them.
 #[derive(Clone, Copy, PartialEq, Eq, Debug)]
 pub struct Flags {
     /// Carry or borrow.
@@ -10,7 +10,7 @@ pub struct Flags {
     pub z: bool,
     /// The sign of the last result.
     pub s0: bool,
-    /// The sign of the last result that no overflow before it had spoilt.
+    /// The sign of the last result that found OV1 at 0: in a chain, of the first one that overflowed.
     pub s1: bool,
     /// Signed overflow of the last operation.
     pub ov0: bool,

@@ -26,7 +26,7 @@ use Rattle.wb_word.specs.Encoding.{instr_of, of_kind}
 use Rattle.wb_alu.specs.Operation.{alu_result}
 use Rattle.wb_rom.specs.declared.images.Image.{Image}
 use Rattle.wb_machine.specs.State.{State, IsState, IsRegs}
-use Rattle.wb_machine.specs.Next.{accumulator, carried, target, bus_of, product, operand, computed, worked_on, worked, moved_a, moved_b, moved_tr, moved_trb, moved_so, moved_k, moved_l, moved_ram, far_address, raised, merged, asked_by, asked, moved_dr, moved_sr, low_stepped, dp_stepped, rp_stepped, dp_pointed, rp_pointed, moved_dp, moved_rp, taken, following, below, sp_called, stack_called, pc_after, sp_after, rp_after, dp_after, a_after, b_after, tr_after, trb_after, k_after, l_after, dr_after, sr_after, so_after, ram_after, stack_after, regs_after, next_by, next, instr_at}
+use Rattle.wb_machine.specs.Next.{accumulator, carried, target, bus_of, product, operand, computed, worked_on, worked, moved_a, moved_b, moved_tr, moved_trb, moved_so, moved_k, moved_l, moved_ram, far_address, raised, merged, raised_by, raised_in, moved_dr, moved_sr, low_stepped, dp_stepped, rp_stepped, dp_pointed, rp_pointed, moved_dp, moved_rp, taken, following, sp_down, sp_called, stack_called, pc_after, sp_after, rp_after, dp_after, a_after, b_after, tr_after, trb_after, k_after, l_after, dr_after, sr_after, so_after, ram_after, stack_after, regs_after, next_by, next, instr_at}
 
 -- an instruction whose value has 16 bits, as each that stands in a word
 unfoldable pub IsNarrow : Instr → Type 0
@@ -177,15 +177,15 @@ moved_l_lt _ bus image s hb ok = ok.regs_in.l_in
 raised_lt : (sr : ℕ) → raised sr < 2 ^ 16
 raised_lt sr = omega arith
 
-asked_by_lt : (x : Src) (sr : ℕ) → sr < 2 ^ 16 → asked_by x sr < 2 ^ 16
-asked_by_lt src.Dr sr h = raised_lt sr
-asked_by_lt _ sr h = h
+raised_by_lt : (x : Src) (sr : ℕ) → sr < 2 ^ 16 → raised_by x sr < 2 ^ 16
+raised_by_lt src.Dr sr h = raised_lt sr
+raised_by_lt _ sr h = h
 
-asked_lt : (i : Instr) (sr : ℕ) → sr < 2 ^ 16 → asked i sr < 2 ^ 16
-asked_lt (Op o) sr h = asked_by_lt o.src sr h
-asked_lt (Rt o) sr h = asked_by_lt o.src sr h
-asked_lt (Jp c na spare) sr h = h
-asked_lt (Ld value spare d) sr h = h
+raised_in_lt : (i : Instr) (sr : ℕ) → sr < 2 ^ 16 → raised_in i sr < 2 ^ 16
+raised_in_lt (Op o) sr h = raised_by_lt o.src sr h
+raised_in_lt (Rt o) sr h = raised_by_lt o.src sr h
+raised_in_lt (Jp c na spare) sr h = h
+raised_in_lt (Ld value spare d) sr h = h
 
 merged_lt : (bus sr : ℕ) → sr < 2 ^ 16 → merged bus sr < 2 ^ 16
 merged_lt bus sr h = omega arith
@@ -244,7 +244,7 @@ following_lt pc = mod_below (pc + 1) 2048 (lit< tt)
 pc_after_lt : (i : Instr) (s : State) → IsState s → pc_after i s < 2048
 unfolding pc_after
 pc_after_lt (Op o) s ok = following_lt s.regs.pc
-pc_after_lt (Rt o) s ok = ok.stack_in (below s.regs.sp) (mod_below _ 4 (lit< tt))
+pc_after_lt (Rt o) s ok = ok.stack_in (sp_down s.regs.sp) (mod_below _ 4 (lit< tt))
 pc_after_lt (Jp c na spare) s ok = choice_lt (taken c s.regs) na.value _ na.in_range (following_lt s.regs.pc)
 pc_after_lt (Ld value spare d) s ok = following_lt s.regs.pc
 
@@ -308,7 +308,7 @@ regs_in_range i image s n ok =
       k_in = moved_k_lt (target i) _ s bus ok;
       l_in = moved_l_lt (target i) _ image s bus ok;
       dr_in = moved_dr_lt (target i) _ _ bus ok.regs_in.dr_in;
-      sr_in = moved_sr_lt (target i) _ _ (asked_lt i s.regs.sr ok.regs_in.sr_in);
+      sr_in = moved_sr_lt (target i) _ _ (raised_in_lt i s.regs.sr ok.regs_in.sr_in);
       so_in = moved_so_lt (target i) _ _ bus ok.regs_in.so_in;
     }
 

@@ -13,16 +13,16 @@ use Rattle.wb_alu.specs.declared.flags.Flags.{Flags}
 use Rattle.wb_rom.specs.declared.images.Image.{Image}
 use Rattle.wb_machine.specs.declared.registers.Regs.{Regs}
 use Rattle.wb_machine.specs.State.{State}
-use Rattle.wb_machine.specs.Next.{bus_of, computed, computed_flags, moved_a, moved_b, moved_tr, moved_trb, moved_so, moved_k, moved_l, moved_ram, asked_by, moved_dr, moved_sr, moved_dp, moved_rp, dp_stepped, rp_stepped, above, below, following, taken}
+use Rattle.wb_machine.specs.Next.{bus_of, computed, computed_flags, moved_a, moved_b, moved_tr, moved_trb, moved_so, moved_k, moved_l, moved_ram, raised_by, moved_dr, moved_sr, moved_dp, moved_rp, dp_stepped, rp_stepped, sp_up, sp_down, following, taken}
 
 -- an accumulator and its flags take the ALU's work
 unfoldable pub calculated : Acc → ℕ → Flags → Regs → Regs
 calculated acc.A value flags r = record r { a = value; flags_a = flags }
 calculated acc.B value flags r = record r { b = value; flags_b = flags }
 
--- the source asks
-unfoldable pub asking : Src → Regs → Regs
-asking x r = record r { sr = asked_by x r.sr }
+-- the source raises RQM where it is DR
+unfoldable pub source_raised : Src → Regs → Regs
+source_raised x r = record r { sr = raised_by x r.sr }
 
 -- the bus moves into a register
 unfoldable pub moved : Dst → ℕ → Image → List ℕ → Regs → Regs
@@ -58,7 +58,7 @@ unfoldable pub operated_on : OpWord → ℕ → Image → State → State
 operated_on o bus image s = record {
   regs =
       pointed o (moved o.dst bus image s.ram
-      (asking o.src (calculated o.acc (computed o bus s) (computed_flags o bus s) s.regs)));
+      (source_raised o.src (calculated o.acc (computed o bus s) (computed_flags o bus s) s.regs)));
   stack = s.stack;
   ram = moved_ram o.dst bus s.regs.dp s.ram;
 }
@@ -75,8 +75,8 @@ loaded d value image s = record {
 }
 
 -- the program counter goes past the word
-unfoldable pub counted : State → State
-counted s = record s { regs = record s.regs { pc = following s.regs.pc } }
+unfoldable pub advanced : State → State
+advanced s = record s { regs = record s.regs { pc = following s.regs.pc } }
 
 -- a jump, where its condition holds
 unfoldable pub branched : Cond → ℕ → State → State
@@ -85,7 +85,7 @@ branched c na s = record s { regs = record s.regs { pc = (if taken c s.regs then
 -- a call: the return address goes onto the stack
 unfoldable pub called : ℕ → State → State
 called na s = record {
-  regs = record s.regs { pc = na; sp = above s.regs.sp };
+  regs = record s.regs { pc = na; sp = sp_up s.regs.sp };
   stack = slice_set s.stack s.regs.sp s.regs.pc;
   ram = s.ram;
 }
@@ -97,5 +97,5 @@ jumped c na s = branched c na s
 -- a return: the address comes back from the stack
 unfoldable pub returned : State → State
 returned s = record s {
-  regs = record s.regs { pc = slice_index s.stack (below s.regs.sp); sp = below s.regs.sp };
+  regs = record s.regs { pc = slice_index s.stack (sp_down s.regs.sp); sp = sp_down s.regs.sp };
 }

@@ -182,14 +182,16 @@ ram_after i image s = moved_ram (target i) (carried i image s) s.regs.dp s.ram
 abbrev pub raised : ℕ → ℕ
 raised sr = 32768 + sr % 32768
 
-abbrev pub asked_by : Src → ℕ → ℕ
-asked_by src.Dr sr = raised sr
-asked_by _ sr = sr
+-- SR after a source was put on the bus
+abbrev pub raised_by : Src → ℕ → ℕ
+raised_by src.Dr sr = raised sr
+raised_by _ sr = sr
 
-abbrev pub asked : Instr → ℕ → ℕ
-asked (Op o) sr = asked_by o.src sr
-asked (Rt o) sr = asked_by o.src sr
-asked _ sr = sr
+-- SR after the source of an instruction was put on the bus
+abbrev pub raised_in : Instr → ℕ → ℕ
+raised_in (Op o) sr = raised_by o.src sr
+raised_in (Rt o) sr = raised_by o.src sr
+raised_in _ sr = sr
 
 -- bits 14, 13, 11 to 7, 1 and 0 of the bus; 15, 12 and 6 to 2 of the old SR
 abbrev pub merged : ℕ → ℕ → ℕ
@@ -210,7 +212,7 @@ unfoldable pub dr_after : Instr → Image → State → ℕ
 dr_after i image s = moved_dr (target i) (carried i image s) s.regs.dr
 
 unfoldable pub sr_after : Instr → Image → State → ℕ
-sr_after i image s = moved_sr (target i) (carried i image s) (asked i s.regs.sr)
+sr_after i image s = moved_sr (target i) (carried i image s) (raised_in i s.regs.sr)
 
 -- The pointers. A move to DP or RP wins over the change that the word makes in it.
 abbrev pub low_stepped : Dpl → ℕ → ℕ
@@ -292,14 +294,14 @@ taken (cond.Other code) r = false
 abbrev pub following : ℕ → ℕ
 following pc = (pc + 1) % 2048
 
-abbrev pub above : ℕ → ℕ
-above sp = (sp + 1) % 4
+abbrev pub sp_up : ℕ → ℕ
+sp_up sp = (sp + 1) % 4
 
-abbrev pub below : ℕ → ℕ
-below sp = (sp + 3) % 4
+abbrev pub sp_down : ℕ → ℕ
+sp_down sp = (sp + 3) % 4
 
 abbrev pub sp_called : Cond → ℕ → ℕ
-sp_called cond.Call sp = above sp
+sp_called cond.Call sp = sp_up sp
 sp_called _ sp = sp
 
 abbrev pub stack_called : Cond → State → List ℕ
@@ -307,12 +309,12 @@ stack_called cond.Call s = slice_set s.stack s.regs.sp (following s.regs.pc)
 stack_called _ s = s.stack
 
 unfoldable pub pc_after : Instr → State → ℕ
-pc_after (Rt o) s = slice_index s.stack (below s.regs.sp)
+pc_after (Rt o) s = slice_index s.stack (sp_down s.regs.sp)
 pc_after (Jp c na spare) s = (if taken c s.regs then na.value else following s.regs.pc)
 pc_after _ s = following s.regs.pc
 
 unfoldable pub sp_after : Instr → State → ℕ
-sp_after (Rt o) s = below s.regs.sp
+sp_after (Rt o) s = sp_down s.regs.sp
 sp_after (Jp c na spare) s = sp_called c s.regs.sp
 sp_after _ s = s.regs.sp
 

@@ -1,7 +1,7 @@
 -- `next` register by register, and the ranges that it keeps.
-use Rattle.std.specs.Prelude.{◌≡◌}
+use Rattle.std.specs.Prelude.{◌≡◌, ℕ, List}
 use Rattle.wb_rom.specs.declared.images.Image.{Image}
-use Rattle.wb_machine.specs.State.{State, IsState}
+use Rattle.wb_machine.specs.State.{State, IsState, IsStart, power}
 use Rattle.wb_machine.specs.Next.{instr_at, next, pc_after, sp_after, rp_after, dp_after, a_after, b_after, tr_after, trb_after, k_after, l_after, dr_after, sr_after, so_after, flags_a_after, flags_b_after, stack_after, ram_after}
 
 -- each part of the state after an instruction is its own definition, of the instruction and the state before it
@@ -31,3 +31,7 @@ PartsGoOnAlone = (image : Image) (s : State) → GoesOn image s
 -- An instruction keeps the ranges of all parts.
 abbrev pub RangesAreKept : Type 0
 RangesAreKept = (image : Image) (s : State) → IsState s → IsState (next image s)
+
+-- A chip at power-up is in its ranges, whose RAM holds words.
+abbrev pub StartsAreInRange : Type 0
+StartsAreInRange = (cells : List ℕ) → IsStart cells → IsState (power cells)

@@ -1,5 +1,5 @@
 -- What the chip holds, within which ranges, and how it stands at power-up.
-use Rattle.std.specs.Prelude.{◌≡◌, ℕ, ◌^◌, ◌<◌, Bool, false, ◌/◌, ◌%◌, ◌==◌, List, length, replicate, slice_index}
+use Rattle.std.specs.Prelude.{◌≡◌, ℕ, ◌^◌, ◌<◌, Bool, false, ◌/◌, ◌%◌, ◌==◌, List, length, replicate, slice_index, All}
 use Rattle.wb_alu.specs.declared.flags.Flags.{Flags}
 use Rattle.wb_machine.specs.declared.registers.Regs.{Regs}
 
@@ -30,6 +30,11 @@ pub record IsState (s : State) : Type 0 where
   pub stack_in : (k : ℕ) → k < 4 → slice_index s.stack k < 2048
   pub ram_length : length s.ram ≡ 256
   pub ram_in : (k : ℕ) → k < 256 → slice_index s.ram k < 2 ^ 16
+
+-- a content of the data RAM: 256 words of 16 bits
+pub record IsStart (cells : List ℕ) : Type 0 where
+  pub len : length cells ≡ 256
+  pub words : All (λ word. word < 65536) cells
 
 -- bit 15 of SR: a request of the chip stands
 abbrev pub rqm : Regs → Bool
@@ -62,6 +67,6 @@ first_regs = record {
 unfoldable pub power : List ℕ → State
 power cells = record { regs = first_regs; stack = replicate 4 0; ram = cells }
 
--- the chip at power-up with an empty RAM
+-- the chip at power-up with a RAM of zeros
 unfoldable pub reset : State
 reset = power (replicate 256 0)

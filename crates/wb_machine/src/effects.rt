@@ -1,5 +1,5 @@
 ghost use Rattle.std.specs.Prelude.{◌≡◌, ◌<◌, ◌/◌, ◌%◌, ◌^◌, bit_xor};
-ghost use Rattle.wb_machine.specs.Effects.{asking, calculated, moved, pointed};
+ghost use Rattle.wb_machine.specs.Effects.{calculated, moved, pointed, source_raised};
 ghost use Rattle.wb_machine.specs.Next.{dp_stepped, merged, moved_ram, low_stepped, product, raised, rp_stepped};
 ghost use Rattle.wb_alu.specs.Operation.{signed};
 ghost use Rattle.wb_machine.specs.State.{IsRegs};
@@ -51,10 +51,10 @@ fn raise(sr: u16) -> u16
     0x8000 + (sr & 0x7FFF)
 }
 
-/// Reading DR asks the host for the next transfer.
-#[tactic(auto, unfolding(crate::specs::Effects::asking))]
-pub(crate) fn ask(src: Src, regs: &mut Regs)
-    ensures value { regs.new ≡ asking src regs.old }
+/// Reading DR raises RQM, the request for the next transfer of the host.
+#[tactic(auto, unfolding(crate::specs::Effects::source_raised))]
+pub(crate) fn raise_by_source(src: Src, regs: &mut Regs)
+    ensures value { regs.new ≡ source_raised src regs.old }
     ensures in_range { IsRegs regs.old → IsRegs regs.new }
 {
     match src {
@@ -109,7 +109,7 @@ pub(crate) fn move_to(dst: Dst, bus: u16, image: &Image, ram: &[u16; 256], regs:
     }
 }
 
-pub(crate) fn keep(dst: Dst, bus: u16, dp: u8, ram: &mut [u16; 256])
+pub(crate) fn write_ram(dst: Dst, bus: u16, dp: u8, ram: &mut [u16; 256])
     ensures { ram.new ≡ moved_ram dst bus dp ram.old }
 {
     match dst {

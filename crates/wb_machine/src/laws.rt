@@ -1,5 +1,5 @@
 //! What is true of every instruction of every image in every state.
-ghost use Rattle.wb_machine.specs.Parts.{PartsGoOnAlone, RangesAreKept};
+ghost use Rattle.wb_machine.specs.Parts.{PartsGoOnAlone, RangesAreKept, StartsAreInRange};
 
 /// Each register, the stack and the RAM after an instruction have a definition of their own over the state before.
 pub fn parts_go_on_alone()
@@ -9,4 +9,9 @@ pub fn parts_go_on_alone()
 /// A state in its ranges stays in them.
 pub fn ranges_are_kept()
     ensures { RangesAreKept }
+{}
+
+/// A chip at power-up is in its ranges.
+pub fn starts_are_in_range()
+    ensures { StartsAreInRange }
 {}

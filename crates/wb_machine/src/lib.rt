@@ -14,6 +14,6 @@ mod registers;
 #[cfg(test)]
 mod tests;
 
-pub use laws::{parts_go_on_alone, ranges_are_kept};
+pub use laws::{parts_go_on_alone, ranges_are_kept, starts_are_in_range};
 pub use processor::Machine;
 pub use registers::Regs;

@@ -1,6 +1,6 @@
 ghost use Rattle.std.specs.Prelude.{◌≡◌, if◌then◌else◌};
 
-use crate::effects::{ask, calculate, keep, move_to, point, twice_product};
+use crate::effects::{calculate, move_to, point, raise_by_source, twice_product, write_ram};
 use crate::jumps::is_taken;
 use crate::registers::Regs;
 use std::marker::Model;
@@ -29,10 +29,10 @@ impl Model for Machine {
 impl Machine {
     ghost use Rattle.std.specs.Prelude.{◌≡◌, ◌<◌, ◌^◌, length, slice_index};
     ghost use Rattle.wb_machine.specs.State.{IsRegs, IsState, power, reset};
-    ghost use Rattle.wb_machine.specs.Effects.{branched, called, counted, jumped, loaded, operated, returned};
+    ghost use Rattle.wb_machine.specs.Effects.{advanced, branched, called, jumped, loaded, operated, returned};
     ghost use Rattle.wb_machine.specs.Next.{bus_of, computed, computed_flags, next, operand};
 
-    /// The chip at power-up, with an empty RAM.
+    /// The chip at power-up, with a RAM of zeros.
     #[tactic(auto, unfolding(crate::specs::State::reset, crate::specs::State::power))]
     pub fn reset() -> Machine
         ensures value { result ≡ reset }
@@ -112,7 +112,7 @@ impl Machine {
         let word = image.word_at(Addr {
             value: self.regs.pc,
         });
-        self.count();
+        self.advance();
         match decode(word) {
             Instr::Op(op) => self.operate(&op, image),
             Instr::Rt(op) => {
@@ -124,9 +124,9 @@ impl Machine {
         }
     }
 
-    #[tactic(auto, unfolding(crate::specs::Effects::counted))]
-    fn count(&mut self)
-        ensures value { self.new ≡ counted self.old }
+    #[tactic(auto, unfolding(crate::specs::Effects::advanced))]
+    fn advance(&mut self)
+        ensures value { self.new ≡ advanced self.old }
         ensures in_range { IsState self.new }
     {
         self.regs.pc = (self.regs.pc + 1) & 0x7FF;
@@ -243,9 +243,9 @@ impl Machine {
         let (value, flags) = self.compute(op, bus);
         let dp = self.regs.dp;
         calculate(op.acc, value, flags, &mut self.regs);
-        ask(op.src, &mut self.regs);
+        raise_by_source(op.src, &mut self.regs);
         move_to(op.dst, bus, image, &self.ram, &mut self.regs);
-        keep(op.dst, bus, dp, &mut self.ram);
+        write_ram(op.dst, bus, dp, &mut self.ram);
         point(op, &mut self.regs);
     }
 
@@ -256,7 +256,7 @@ impl Machine {
     {
         let dp = self.regs.dp;
         move_to(dst, value, image, &self.ram, &mut self.regs);
-        keep(dst, value, dp, &mut self.ram);
+        write_ram(dst, value, dp, &mut self.ram);
     }
 }
 

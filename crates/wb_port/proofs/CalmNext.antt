@@ -14,7 +14,7 @@ use Rattle.wb_word.specs.declared.words.Instr.{Instr}
 use Rattle.wb_word.specs.declared.words.Instr.TheVariants.{Op, Rt, Jp, Ld}
 use Rattle.wb_rom.specs.declared.images.Image.{Image}
 use Rattle.wb_machine.specs.State.{State}
-use Rattle.wb_machine.specs.Next.{target, asked, asked_by, moved_dr, moved_sr, pc_after, sp_after, rp_after, dp_after, a_after, b_after, tr_after, trb_after, k_after, l_after, dr_after, sr_after, so_after, flags_a_after, flags_b_after, ram_after, stack_after, regs_after, next_by, next, stack_called}
+use Rattle.wb_machine.specs.Next.{target, raised_in, raised_by, moved_dr, moved_sr, pc_after, sp_after, rp_after, dp_after, a_after, b_after, tr_after, trb_after, k_after, l_after, dr_after, sr_after, so_after, flags_a_after, flags_b_after, ram_after, stack_after, regs_after, next_by, next, stack_called}
 use Rattle.wb_port.specs.Port.{ported}
 use Rattle.wb_port.specs.Wait.{src_touches, dst_touches, instr_touches, touches, word_of}
 use Rattle.wb_port.proofs.CalmReads.{carried_calm, worked_calm, worked_flags_calm, taken_calm}
@@ -34,15 +34,15 @@ moved_sr_calm dst.Dr bus sr calm = cc
 moved_sr_calm dst.Sr bus sr calm = cc
 moved_sr_calm _ bus sr calm = refl
 
-asked_by_calm : (x : Src) (sr : ℕ) → src_touches x ≡ false → asked_by x sr ≡ sr
-asked_by_calm src.Dr sr calm = cc
-asked_by_calm _ sr calm = refl
+raised_by_calm : (x : Src) (sr : ℕ) → src_touches x ≡ false → raised_by x sr ≡ sr
+raised_by_calm src.Dr sr calm = cc
+raised_by_calm _ sr calm = refl
 
-asked_calm : (i : Instr) (sr : ℕ) → instr_touches i ≡ false → asked i sr ≡ sr
-asked_calm (Op o) sr calm = asked_by_calm o.src sr (or_parts _ _ calm).0
-asked_calm (Rt o) sr calm = asked_by_calm o.src sr (or_parts _ _ calm).0
-asked_calm (Jp c na spare) sr calm = refl
-asked_calm (Ld value spare d) sr calm = refl
+raised_in_calm : (i : Instr) (sr : ℕ) → instr_touches i ≡ false → raised_in i sr ≡ sr
+raised_in_calm (Op o) sr calm = raised_by_calm o.src sr (or_parts _ _ calm).0
+raised_in_calm (Rt o) sr calm = raised_by_calm o.src sr (or_parts _ _ calm).0
+raised_in_calm (Jp c na spare) sr calm = refl
+raised_in_calm (Ld value spare d) sr calm = refl
 
 pub dr_calm : (i : Instr) (image : Image) (m : State) → instr_touches i ≡ false → dr_after i image m ≡ m.regs.dr
 unfolding dr_after
@@ -51,7 +51,7 @@ dr_calm i image m calm = moved_dr_calm (target i) _ m.regs.dr (target_calm i cal
 pub sr_calm : (i : Instr) (image : Image) (m : State) → instr_touches i ≡ false → sr_after i image m ≡ m.regs.sr
 unfolding sr_after
 sr_calm i image m calm =
-    rw (asked_calm i m.regs.sr calm) (moved_sr_calm (target i) _ m.regs.sr (target_calm i calm))
+    rw (raised_in_calm i m.regs.sr calm) (moved_sr_calm (target i) _ m.regs.sr (target_calm i calm))
 
 pc_calm : (i : Instr) (dr sr : ℕ) (m : State)
     → instr_touches i ≡ false → pc_after i (ported dr sr m) ≡ pc_after i m

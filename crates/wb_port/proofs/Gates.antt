@@ -41,11 +41,6 @@ way_ends image at here words w h =
     let s : words + to_gate image here ≡ to_gate image at = w.sum in
     omega arith
 
--- each address of a loop is a poll
-pub loop_places : (image : Image) (m j at : ℕ) → IsWaitLoop image at m → is_poll image (follow_times image j at) ≡ true
-loop_places image m zero at l = loop_poll image at m l
-loop_places image m (suc j) at l = loop_places image m j (follow image at) (turned_loop image at m l)
-
 -- an address begins one loop at most
 pub one_loop : (image : Image) (at m n : ℕ) → IsWaitLoop image at m → IsWaitLoop image at n → m ≡ n
 one_loop image at m n l k =

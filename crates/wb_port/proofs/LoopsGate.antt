@@ -1,12 +1,12 @@
 -- The test of a wait loop is the same one for all places of the loop.
-use Rattle.std.proofs.Common.{◌≡◌, ℕ, zero, suc, ◌<◌, ◌≤◌, ◌+◌, Bool, true, false, refl, sym, ap, arith, ◌∙◌, ◌⊎◌, inl, inr, cond}
+use Rattle.std.proofs.Common.{subst, ◌≡◌, ℕ, zero, suc, ◌<◌, ◌≤◌, ◌+◌, Bool, true, false, refl, sym, ap, arith, ◌∙◌, ◌⊎◌, inl, inr, cond}
 use Rattle.std.specs.Prelude.{if◌then◌else◌}
 use Rattle.std.proofs.lemmas.Bool.{cases_Bool}
 use Rattle.wb_rom.specs.declared.images.Image.{Image}
 use Rattle.wb_port.specs.Wait.{is_test, word_of, follow, follow_times, is_poll, before_test, to_gate}
-use Rattle.wb_port.specs.Facts.{gate}
+use Rattle.wb_port.specs.Facts.{gate, IsGateOf}
 use Rattle.wb_port.proofs.Walks.{tests}
-use Rattle.wb_port.proofs.Circles.{IsWaitLoop, poll_loop, nearer}
+use Rattle.wb_port.proofs.Circles.{IsWaitLoop, poll_loop, follow_poll, nearer}
 
 -- one for a test, else zero
 abbrev tested : Image → ℕ → ℕ
@@ -66,3 +66,47 @@ gate_turned image at poll = by (cases_Bool (is_test (word_of image at)))
         let l = poll_loop image at poll in
         after_gate image at l.0 l.1 test ∙ sym (ap (λ j. follow_times image j at) (gate_here image at test))
     by (inr other) = sym (ap (λ j. follow_times image j at) (nearer image at poll other))
+
+-- where no word comes before the test, it is here
+zero_here : (image : Image) (m at : ℕ) → before_test image (suc m) at ≡ 0 → is_test (word_of image at) ≡ true
+zero_here image m at z = by (cases_Bool (is_test (word_of image at)))
+  where
+    by : (is_test (word_of image at) ≡ true) ⊎ (is_test (word_of image at) ≡ false) → is_test (word_of image at) ≡ true
+    by (inl test) = test
+    by (inr other) = let e = before_later image m at other in absurd (let none : suc (before_test image m (follow image at)) ≡ 0 = sym e ∙ z in omega arith)
+
+at_zero : (image : Image) (at : ℕ) → to_gate image at ≡ 0 → is_test (word_of image at) ≡ true
+unfolding to_gate
+at_zero image at z = zero_here image 7 at z
+
+not_here : (image : Image) (at n : ℕ) → to_gate image at ≡ suc n → is_test (word_of image at) ≡ false
+not_here image at n e = by (cases_Bool (is_test (word_of image at)))
+  where
+    by : (is_test (word_of image at) ≡ true) ⊎ (is_test (word_of image at) ≡ false) → is_test (word_of image at) ≡ false
+    by (inl test) = let z = gate_here image at test in absurd (omega arith)
+    by (inr other) = other
+
+-- the way to the gate, word by word
+gate_by : (image : Image) (n at : ℕ) → is_poll image at ≡ true → to_gate image at ≡ n → IsGateOf image at (follow_times image n at)
+gate_by image zero at poll e = record {
+  test = at_zero image at e;
+  poll = poll;
+  first = λ j less. absurd (let none : j < 0 = subst (λ (x : ℕ). j < x) e less in omega arith);
+}
+gate_by image (suc n) at poll e =
+    let other = not_here image at n e in
+    let near : to_gate image (follow image at) ≡ n = let s = nearer image at poll other in omega arith in
+    let rest = gate_by image n (follow image at) (follow_poll image at poll) near in
+    record {
+      test = rest.test;
+      poll = rest.poll;
+      first = λ j less. before j (let l : j < suc n = subst (λ (x : ℕ). j < x) e less in l) other near rest;
+    }
+  where
+    before : (j : ℕ) → j < suc n → is_test (word_of image at) ≡ false → to_gate image (follow image at) ≡ n → IsGateOf image (follow image at) (follow_times image n (follow image at)) → is_test (word_of image (follow_times image j at)) ≡ false
+    before zero less other near rest = other
+    before (suc j) less other near rest = rest.first j (let l : j < n = omega arith in subst (λ (x : ℕ). j < x) (sym near) l)
+
+pub gates_test : (image : Image) (at : ℕ) → is_poll image at ≡ true → IsGateOf image at (gate image at)
+unfolding gate
+gates_test image at poll = gate_by image (to_gate image at) at poll refl

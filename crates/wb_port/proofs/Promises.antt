@@ -9,21 +9,24 @@ use Rattle.wb_port.specs.declared.accesses.Event.{Event}
 use Rattle.wb_port.specs.declared.accesses.Event.TheVariants as event
 use Rattle.wb_port.specs.declared.chips.Chip.{Chip}
 use Rattle.wb_port.specs.Port.{rqm, accessed, after_read, after_write, transferred, with_request, drc, drs}
-use Rattle.wb_port.specs.Wait.{raises_request}
+use Rattle.wb_port.specs.Wait.{raises_request, follow_times}
 use Rattle.wb_port.specs.Monitor.{capped, stepped, observed, count_after, is_idle, is_breach, is_leaving, word_at}
 use Rattle.wb_port.specs.Schedule.{powered, applied, after}
 use Rattle.wb_port.specs.Talk.{Talk, transfers}
 use Rattle.wb_port.specs.Run.{beginning}
 use Rattle.wb_port.specs.Endings.{LoopsArePolls, PollsBeginLoops, LoopsAreOne, RequestsAreAsked, AppliedChipsFollow, ComesToAnEnd, RunsComeToAnEnd}
-use Rattle.wb_port.proofs.Circles.{loop_of, is_loop_of, poll_loop}
-use Rattle.wb_port.proofs.Gates.{loop_places, one_loop}
+use Rattle.wb_port.proofs.Circles.{loop_of, is_loop_of, loop_poll, poll_loop}
+use Rattle.wb_port.proofs.Gates.{one_loop}
+use Rattle.wb_port.proofs.SharedLoops.{moved_loop}
 use Rattle.wb_port.proofs.Measure.{IsSound, budget, open_of, linger-most}
 use Rattle.wb_port.proofs.Ends.{IsEnding, rest_of, ending, one_end, stepped_sound}
 use Rattle.wb_port.proofs.Playing.{begins, power_off}
 use Rattle.wb_port.proofs.Single.{top, whole-part}
 
 pub loops_are_polls : LoopsArePolls
-loops_are_polls image at m j l = loop_places image m j at (loop_of image at m l.some l.most l.loops)
+loops_are_polls image at m j l =
+    let k = moved_loop image m j at (loop_of image at m l.some l.most l.loops) in
+    (record { some = k.some; most = k.most; loops = is_loop_of image (follow_times image j at) m k }, loop_poll image (follow_times image j at) m k)
 
 pub polls_begin_loops : PollsBeginLoops
 polls_begin_loops image at h =

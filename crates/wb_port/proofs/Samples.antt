@@ -1,9 +1,11 @@
 -- The wait loops of the worked programs, computed from the definitions.
-use Rattle.std.proofs.Common.{◌≡◌, ℕ, ◌+◌, Bool, true, false, refl, sym, ◌∙◌, ap, lit<, ◌⊎◌, inl, inr, ◌%◌}
+use Rattle.std.proofs.Common.{◌≡◌, ℕ, zero, suc, ◌<◌, arith, subst, ◌+◌, Bool, true, false, refl, sym, ◌∙◌, ap, lit<, ◌⊎◌, inl, inr, ◌%◌}
 use Rattle.wb_word.specs.Encoding.{instr_of}
 use Rattle.wb_rom.specs.declared.images.Image.{Image}
-use Rattle.wb_port.specs.Wait.{is_plain, is_test, instr_follow, word_of, follow, to_gate}
+use Rattle.wb_port.specs.Wait.{is_plain, is_test, is_poll, instr_follow, word_of, follow, to_gate}
 use Rattle.wb_port.specs.Worked.{BeginsWith, echo, loop_out, loop_back, eight, nine, EchoWaits, TwoWait, EightWait, NineDoNot, WorkedLoops}
+use Rattle.wb_port.proofs.Circles.{follow_poll, nearer}
+use Rattle.wb_port.proofs.Gates.{at_gate}
 use Rattle.wb_port.proofs.Walks.{poll_is_sought}
 
 jrqm_two-test : is_test 0x97C008 ≡ true
@@ -160,8 +162,28 @@ back_at image at e =
       next = follow_word image at _ e ∙ jrqm_two-follow at;
     }
 
+-- the word after a poll, and how far a poll is before the test
+later_poll : (image : Image) (at next : ℕ) → follow image at ≡ next → is_poll image at ≡ true → is_poll image next ≡ true
+later_poll image at next e poll = subst (λ (x : ℕ). is_poll image x ≡ true) e (follow_poll image at poll)
+
+earlier : (image : Image) (at next : ℕ) → follow image at ≡ next → is_poll image at ≡ true → is_test (word_of image at) ≡ false → to_gate image at ≡ suc (to_gate image next)
+earlier image at next e poll other = nearer image at poll other ∙ ap (λ (x : ℕ). suc (to_gate image x)) e
+
+among_seven : (P : ℕ → Type 0) → P 0 → P 1 → P 2 → P 3 → P 4 → P 5 → P 6 → (j : ℕ) → j < 7 → P j
+among_seven P a b c d e f g zero h = a
+among_seven P a b c d e f g (suc zero) h = b
+among_seven P a b c d e f g (suc (suc zero)) h = c
+among_seven P a b c d e f g (suc (suc (suc zero))) h = d
+among_seven P a b c d e f g (suc (suc (suc (suc zero)))) h = e
+among_seven P a b c d e f g (suc (suc (suc (suc (suc zero))))) h = f
+among_seven P a b c d e f g (suc (suc (suc (suc (suc (suc zero)))))) h = g
+among_seven P a b c d e f g (suc (suc (suc (suc (suc (suc (suc j))))))) h = absurd (omega arith)
+
+among_eight : (P : ℕ → Type 0) → P 0 → P 1 → P 2 → P 3 → P 4 → P 5 → P 6 → P 7 → (j : ℕ) → j < 8 → P j
+among_eight P a b c d e f g h zero less = a
+among_eight P a b c d e f g h (suc j) less = among_seven (λ (i : ℕ). P (suc i)) b c d e f g h j (omega arith)
+
 eight_waits : (image : Image) → BeginsWith image eight → EightWait image
-unfolding to_gate
 eight_waits image h =
     let n2 = nothing_at image 2 (h 2 (lit< tt)) in
     let n3 = nothing_at image 3 (h 3 (lit< tt)) in
@@ -171,10 +193,32 @@ eight_waits image h =
     let n7 = nothing_at image 7 (h 7 (lit< tt)) in
     let n8 = nothing_at image 8 (h 8 (lit< tt)) in
     let b9 = back_at image 9 (h 9 (lit< tt)) in
+    let p2 : is_poll image 2 ≡ true =
+    sym (poll_is_sought image 2) ∙ simp (n2.plain, n3.plain, n4.plain, n5.plain, n6.plain, n7.plain, n8.plain, b9.plain, n2.test, n3.test, n4.test, n5.test, n6.test, n7.test, n8.test, b9.test, n2.next, n3.next, n4.next, n5.next, n6.next, n7.next, n8.next, b9.next) in
+    let p3 = later_poll image 2 3 n2.next p2 in
+    let p4 = later_poll image 3 4 n3.next p3 in
+    let p5 = later_poll image 4 5 n4.next p4 in
+    let p6 = later_poll image 5 6 n5.next p5 in
+    let p7 = later_poll image 6 7 n6.next p6 in
+    let p8 = later_poll image 7 8 n7.next p7 in
+    let p9 = later_poll image 8 9 n8.next p8 in
+    let t9 : to_gate image 9 ≡ 0 = at_gate image 9 b9.test in
+    let t8 : to_gate image 8 ≡ 1 = earlier image 8 9 n8.next p8 n8.test ∙ ap suc t9 in
+    let t7 : to_gate image 7 ≡ 2 = earlier image 7 8 n7.next p7 n7.test ∙ ap suc t8 in
+    let t6 : to_gate image 6 ≡ 3 = earlier image 6 7 n6.next p6 n6.test ∙ ap suc t7 in
+    let t5 : to_gate image 5 ≡ 4 = earlier image 5 6 n5.next p5 n5.test ∙ ap suc t6 in
+    let t4 : to_gate image 4 ≡ 5 = earlier image 4 5 n4.next p4 n4.test ∙ ap suc t5 in
+    let t3 : to_gate image 3 ≡ 6 = earlier image 3 4 n3.next p3 n3.test ∙ ap suc t4 in
+    let t2 : to_gate image 2 ≡ 7 = earlier image 2 3 n2.next p2 n2.test ∙ ap suc t3 in
     record {
-      first = sym (poll_is_sought image 2) ∙ simp (n2.plain, n3.plain, n4.plain, n5.plain, n6.plain, n7.plain, n8.plain, b9.plain, n2.test, n3.test, n4.test, n5.test, n6.test, n7.test, n8.test, b9.test, n2.next, n3.next, n4.next, n5.next, n6.next, n7.next, n8.next, b9.next);
-      last = sym (poll_is_sought image 9) ∙ simp (n2.plain, n3.plain, n4.plain, n5.plain, n6.plain, n7.plain, n8.plain, b9.plain, n2.test, n3.test, n4.test, n5.test, n6.test, n7.test, n8.test, b9.test, n2.next, n3.next, n4.next, n5.next, n6.next, n7.next, n8.next, b9.next);
-      far = simp (n2.test, n3.test, n4.test, n5.test, n6.test, n7.test, n8.test, b9.test, n2.next, n3.next, n4.next, n5.next, n6.next, n7.next, n8.next);
+      polls = among_eight (λ (j : ℕ). is_poll image (2 + j) ≡ true) p2 p3 p4 p5 p6 p7 p8 p9;
+      forth =
+          among_seven (λ (j : ℕ). follow image (2 + j) ≡ 3 + j)
+          n2.next n3.next n4.next n5.next n6.next n7.next n8.next;
+      back = b9.next;
+      far =
+          among_eight (λ (j : ℕ). j + to_gate image (2 + j) ≡ 7)
+          (omega arith) (omega arith) (omega arith) (omega arith) (omega arith) (omega arith) (omega arith) (omega arith);
     }
 
 nine_do_not : (image : Image) → BeginsWith image nine → NineDoNot image

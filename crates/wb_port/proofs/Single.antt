@@ -11,10 +11,18 @@ use Rattle.wb_word.specs.declared.words.Instr.{Instr}
 use Rattle.wb_word.specs.declared.words.Instr.TheVariants.{Op, Rt, Jp, Ld}
 use Rattle.wb_rom.specs.declared.images.Image.{Image}
 use Rattle.wb_machine.specs.State.{State}
-use Rattle.wb_machine.specs.Next.{next, instr_at, asked_by, carried, raised, merged, moved_sr, sr_after, pc_after, taken}
-use Rattle.wb_machine.proofs.ByRegister.{next-sr, next-pc}
+use Rattle.wb_machine.specs.Next.{next, next_by, regs_after, instr_at, raised_by, carried, raised, merged, moved_sr, sr_after, pc_after, taken}
 use Rattle.wb_port.specs.Port.{rqm}
 use Rattle.wb_port.specs.Wait.{src_touches, dst_touches, src_raises, dst_raises, instr_touches, instr_raises, instr_tests, instr_is_plain_jump, instr_follow, touches, raises_request, is_test, is_plain, follow, word_of}
+
+-- PC and the status register after an instruction
+next-pc : (image : Image) (s : State) → (next image s).regs.pc ≡ pc_after (instr_at image s) s
+unfolding next next_by regs_after
+next-pc image s = refl
+
+next-sr : (image : Image) (s : State) → (next image s).regs.sr ≡ sr_after (instr_at image s) image s
+unfolding next next_by regs_after
+next-sr image s = refl
 
 -- bit 15 of a status register
 abbrev pub top : ℕ → Bool
@@ -50,11 +58,11 @@ moved-raises : (d : Dst) (bus sr : ℕ) → dst_raises d ≡ true → top (moved
 moved-raises dst.Dr bus sr h = raised-top sr
 moved-raises _ bus sr h = absurd (false≢true h)
 
-asked-keeps : (x : Src) (sr : ℕ) → src_raises x ≡ false → asked_by x sr ≡ sr
+asked-keeps : (x : Src) (sr : ℕ) → src_raises x ≡ false → raised_by x sr ≡ sr
 asked-keeps src.Dr sr h = absurd (true≢false h)
 asked-keeps _ sr h = refl
 
-asked-raises : (x : Src) (sr : ℕ) → src_raises x ≡ true → top (asked_by x sr) ≡ true
+asked-raises : (x : Src) (sr : ℕ) → src_raises x ≡ true → top (raised_by x sr) ≡ true
 asked-raises src.Dr sr h = raised-top sr
 asked-raises _ sr h = absurd (false≢true h)
 
@@ -63,16 +71,16 @@ moved-stays : (d : Dst) (bus sr : ℕ) → top sr ≡ true → top (moved_sr d b
 moved-stays d bus sr h =
     elim (cases_Bool (dst_raises d)) [ inl r ↦ moved-raises d bus sr r | inr k ↦ moved-keeps d bus sr k ∙ h ]
 
-op-keeps : (x : Src) (d : Dst) (bus sr : ℕ) → (src_raises x || dst_raises d) ≡ false → top (moved_sr d bus (asked_by x sr)) ≡ top sr
+op-keeps : (x : Src) (d : Dst) (bus sr : ℕ) → (src_raises x || dst_raises d) ≡ false → top (moved_sr d bus (raised_by x sr)) ≡ top sr
 op-keeps x d bus sr h =
     let p = or_parts _ _ h in
-    moved-keeps d bus (asked_by x sr) p.1 ∙ ap top (asked-keeps x sr p.0)
+    moved-keeps d bus (raised_by x sr) p.1 ∙ ap top (asked-keeps x sr p.0)
 
-op-raises : (x : Src) (d : Dst) (bus sr : ℕ) → (src_raises x || dst_raises d) ≡ true → top (moved_sr d bus (asked_by x sr)) ≡ true
+op-raises : (x : Src) (d : Dst) (bus sr : ℕ) → (src_raises x || dst_raises d) ≡ true → top (moved_sr d bus (raised_by x sr)) ≡ true
 op-raises x d bus sr h =
     elim (or_cases _ _ h) [
-      | inl s ↦ moved-stays d bus (asked_by x sr) (asked-raises x sr s)
-      | inr r ↦ moved-raises d bus (asked_by x sr) r
+      | inl s ↦ moved-stays d bus (raised_by x sr) (asked-raises x sr s)
+      | inr r ↦ moved-raises d bus (raised_by x sr) r
     ]
 
 instr-keeps : (i : Instr) (image : Image) (s : State) → instr_raises i ≡ false → top (sr_after i image s) ≡ top s.regs.sr

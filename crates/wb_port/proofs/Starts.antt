@@ -3,7 +3,8 @@ use Rattle.std.proofs.Common.{◌≡◌, ℕ, ◌<◌, List, [], All, replicate,
 use Rattle.std.proofs.lemmas.List.{length-replicate}
 use Rattle.std.proofs.lemmas.List.Elements.{All-replicate}
 use Rattle.wb_port.specs.declared.accesses.Access.{Access}
-use Rattle.wb_port.specs.Talk.{IsStart, IsByteAccess, IsTalk}
+use Rattle.wb_machine.specs.State.{IsStart}
+use Rattle.wb_port.specs.Talk.{IsByteAccess, IsTalk}
 
 zeros : IsStart (replicate 256 0)
 zeros = record {

@@ -1,10 +1,10 @@
 -- What single words do, over the instructions that they are.
 use Rattle.std.proofs.Common.{◌≡◌, ◌≢◌, ℕ, ◌+◌, ◌%◌, refl, ap, ◌∙◌, subst, Option, ◌<◌, arith, replicate}
+use Rattle.std.specs.Coded.{le_prop}
 use Rattle.std.specs.Prelude.{IfSome}
 use Rattle.std.proofs.lemmas.Bool.{ne_eqb}
 use Rattle.wb_rom.specs.declared.images.Image.{Image}
 use Rattle.wb_word.specs.Encoding.{instr_of, addr_at}
-use Rattle.wb_word.proofs.SameNumbers.{same_addr}
 use Rattle.wb_machine.specs.State.{reset, power}
 use Rattle.wb_word.specs.declared.words.Instr.{Instr}
 use Rattle.wb_word.specs.declared.numbers.Addr.{Addr}
@@ -29,7 +29,10 @@ jump_leads image at i w to e s h =
 
 -- the address that a number in range gives is that number
 pub addr_is : (a : Addr) → addr_at a.value ≡ a
-addr_is a = same_addr (addr_at a.value) a (let h : a.value < 2048 = a.in_range in omega arith)
+addr_is a =
+    let same : a.value % 2048 ≡ a.value = let h : a.value < 2048 = a.in_range in omega arith in
+    let P : ℕ → Type 0 = λ n. (h : n < 2048) → addr_at a.value ≡ (let x : Addr = record { value = n; in_range = h } in x) in
+    subst P same (λ h. ap (λ (k : a.value % 2048 < 2048). let x : Addr = record { value = a.value % 2048; in_range = k } in x) (le_prop (addr_at a.value).in_range h)) a.in_range
 
 pub reset_is : reset ≡ power (replicate 256 0)
 unfolding reset

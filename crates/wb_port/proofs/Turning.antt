@@ -92,7 +92,7 @@ built_same : (c c' : Chip) (g g' l l' : List Access) (s s' : List ℕ) → c ≡
 built_same c c' g g' l l' s s' ce ge le se = cc
 
 -- one access more was given
-pub gave : (image : Image) (k : ℕ) (held : Bool) (d : Talk) (old new : Progress) (a : Access) → slice_get d.accesses old.given ≡ Some a → rqm old.chip.machine ≡ true → new.chip ≡ record old.chip { machine = accessed a old.chip.machine } → new.given ≡ old.given + 1 → new.said ≡ old.said ++ option_to_list (access_reply a old.chip.machine) → turn image k held (moment_of d old) ≡ Gives a (moment_of d new)
+pub gave : (image : Image) (k : ℕ) (held : Bool) (d : Talk) (old new : Progress) (a : Access) → slice_get d.accesses old.given ≡ Some a → rqm old.chip.machine ≡ true → new.chip ≡ record old.chip { machine = accessed a old.chip.machine } → new.given ≡ old.given + 1 → new.said.items ≡ old.said.items ++ option_to_list (access_reply a old.chip.machine) → turn image k held (moment_of d old) ≡ Gives a (moment_of d new)
 unfolding built
 gave image k held d old new a at r chip count said =
     turn_gives image k held (moment_of d old) a (drop (old.given + 1) d.accesses) (next_left d.accesses old.given a at) r
@@ -120,10 +120,10 @@ goes_held image k true d old t new most e w h =
     same_turn t _ _ _ _ (turn_holds image k (moment_of d old) (none_left d.accesses old.given most) w) h
 goes_held image k false d old t new most e w h = absurd (false≢true e)
 
-pub ends_plain : (image : Image) (k : ℕ) (held : Bool) (d : Talk) (old : Progress) → length d.accesses ≤ old.given → held ≡ false → turn image k held (moment_of d old) ≡ Ends (Answered old.said)
+pub ends_plain : (image : Image) (k : ℕ) (held : Bool) (d : Talk) (old : Progress) → length d.accesses ≤ old.given → held ≡ false → turn image k held (moment_of d old) ≡ Ends (Answered old.said.items)
 ends_plain image k false d old most e = turn_answers image k (moment_of d old) (none_left d.accesses old.given most)
 ends_plain image k true d old most e = absurd (true≢false e)
 
-pub ends_held : (image : Image) (k : ℕ) (held : Bool) (d : Talk) (old : Progress) → length d.accesses ≤ old.given → held ≡ true → is_waiting image old.chip ≡ true → turn image k held (moment_of d old) ≡ Ends (Answered old.said)
+pub ends_held : (image : Image) (k : ℕ) (held : Bool) (d : Talk) (old : Progress) → length d.accesses ≤ old.given → held ≡ true → is_waiting image old.chip ≡ true → turn image k held (moment_of d old) ≡ Ends (Answered old.said.items)
 ends_held image k true d old most e w = turn_waits image k (moment_of d old) (none_left d.accesses old.given most) w
 ends_held image k false d old most e w = absurd (false≢true e)

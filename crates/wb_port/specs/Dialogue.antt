@@ -6,7 +6,8 @@ use Rattle.wb_port.specs.declared.accesses.Letter.{Letter}
 use Rattle.wb_port.specs.declared.accesses.Letter.TheVariants as letter
 use Rattle.wb_port.specs.declared.accesses.Power.{Power}
 use Rattle.wb_port.specs.declared.accesses.Power.TheVariants as power
-use Rattle.wb_port.specs.Talk.{Talk, IsStart, IsByteAccess, kinds, transfers}
+use Rattle.wb_machine.specs.State.{IsStart}
+use Rattle.wb_port.specs.Talk.{Talk, IsByteAccess, kinds, transfers}
 
 -- the letter allows a transfer of this kind
 abbrev pub Allows : Letter → Kind → Type 0

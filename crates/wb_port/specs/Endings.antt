@@ -20,12 +20,14 @@ pub record IsLoopOf (image : Image) (at m : ℕ) : Type 0 where
   pub most : m ≤ 8
   pub loops : is_loop image at m ≡ true
 
--- Each address of a wait loop is a poll.
+-- Each address of a wait loop begins it too, with as many words, and is a poll.
 abbrev pub LoopsArePolls : Type 0
 LoopsArePolls =
-    (image : Image) (at m j : ℕ) → IsLoopOf image at m → is_poll image (follow_times image j at) ≡ true
+    (image : Image) (at m j : ℕ)
+    → IsLoopOf image at m
+    → IsLoopOf image (follow_times image j at) m × (is_poll image (follow_times image j at) ≡ true)
 
--- A poll begins a wait loop, whose addresses are those that follow it; so it is in one loop.
+-- A poll begins a wait loop, whose addresses are those that follow it.
 abbrev pub PollsBeginLoops : Type 0
 PollsBeginLoops =
     (image : Image) (at : ℕ) → is_poll image at ≡ true → (m : ℕ) × IsLoopOf image at m
@@ -34,6 +36,23 @@ PollsBeginLoops =
 abbrev pub LoopsAreOne : Type 0
 LoopsAreOne =
     (image : Image) (at m n : ℕ) → IsLoopOf image at m → IsLoopOf image at n → m ≡ n
+
+-- some plain words after the first address comes the second one, or they are the same
+abbrev pub IsPlaceOf : Image → ℕ → ℕ → Type 0
+IsPlaceOf image at place = (j : ℕ) × (follow_times image j at ≡ place)
+
+-- both loops have the same addresses, and as many words
+pub record SameLoop (image : Image) (at m other n : ℕ) : Type 0 where
+  pub words : m ≡ n
+  pub places : (place : ℕ) → IsPlaceOf image at place ↔ IsPlaceOf image other place
+
+-- Each address of a wait loop is in no other: loops that have one address in common are the same.
+abbrev pub LoopsShareNoAddress : Type 0
+LoopsShareNoAddress =
+    (image : Image) (at m other n place : ℕ)
+    → IsLoopOf image at m → IsLoopOf image other n
+    → IsPlaceOf image at place → IsPlaceOf image other place
+    → SameLoop image at m other n
 
 -- At every moment of every schedule, a request that stands is asked.
 abbrev pub RequestsAreAsked : Type 0

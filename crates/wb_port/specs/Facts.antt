@@ -82,6 +82,16 @@ PlacesComeNearer =
 abbrev pub TestsAreGates : Type 0
 TestsAreGates = (image : Image) (at : ℕ) → is_test (word_of image at) ≡ true → to_gate image at ≡ 0
 
+-- the first test at or after a poll, by plain words, and a poll itself
+pub record IsGateOf (image : Image) (at gate : ℕ) : Type 0 where
+  pub test : is_test (word_of image gate) ≡ true
+  pub poll : is_poll image gate ≡ true
+  pub first : (j : ℕ) → j < to_gate image at → is_test (word_of image (follow_times image j at)) ≡ false
+
+-- The gate of a poll is the test of its loop.
+abbrev pub GatesAreTests : Type 0
+GatesAreTests = (image : Image) (at : ℕ) → is_poll image at ≡ true → IsGateOf image at (gate image at)
+
 -- All places of a loop have the same gate.
 abbrev pub LoopsHaveOneGate : Type 0
 LoopsHaveOneGate =

@@ -18,20 +18,31 @@ place c = c.machine.regs.pc
 abbrev pub word_at : Image → Chip → ℕ
 word_at image c = word_of image (place c)
 
--- the next instruction is idle: a request is asked, and the chip waits at a poll, where the test finds RQM
+-- the instruction at an address is idle, by what is asked and whether a request stands: a request is asked, and
+-- the chip waits at a poll, where the test finds RQM
+abbrev pub idles_at : Image → Bool → Bool → ℕ → Bool
+idles_at image asked standing at =
+    asked && is_poll image at && (not (is_test (word_of image at)) || standing)
+
+-- the instruction at an address is a breach: it touches the port while a request is asked, and it isn't in a poll
+abbrev pub breaks_at : Image → Bool → ℕ → Bool
+breaks_at image asked at = asked && touches (word_of image at) && not (is_poll image at)
+
+-- the instruction at an address leaves a poll: its test finds that RQM is 0
+abbrev pub leaves_at : Image → Bool → ℕ → Bool
+leaves_at image standing at = is_poll image at && is_test (word_of image at) && not standing
+
+-- the next instruction is idle
 unfoldable pub is_idle : Image → Chip → Bool
-is_idle image c =
-    c.monitor.asked && is_poll image (place c) && (not (is_test (word_at image c)) || rqm c.machine)
+is_idle image c = idles_at image c.monitor.asked (rqm c.machine) (place c)
 
--- the next instruction is a breach: it touches the port while a request is asked, and it isn't in a poll
+-- the next instruction is a breach
 unfoldable pub is_breach : Image → Chip → Bool
-is_breach image c =
-    c.monitor.asked && touches (word_at image c) && not (is_poll image (place c))
+is_breach image c = breaks_at image c.monitor.asked (place c)
 
--- the next instruction leaves a poll: its test finds that RQM is 0
+-- the next instruction leaves a poll
 unfoldable pub is_leaving : Image → Chip → Bool
-is_leaving image c =
-    is_poll image (place c) && is_test (word_at image c) && not (rqm c.machine)
+is_leaving image c = leaves_at image (rqm c.machine) (place c)
 
 -- the first breach stays, and a new one is kept where there was none
 abbrev pub first_breach : Option Addr → Bool → ℕ → Option Addr

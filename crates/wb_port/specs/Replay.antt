@@ -1,5 +1,5 @@
 -- How a replay keeps a moment of a run: it counts the accesses that were given.
-use Rattle.std.specs.Prelude.{◌≡◌, ℕ, List, [], ◌∷◌, take, drop}
+use Rattle.std.specs.Prelude.{◌≡◌, ℕ, ◌≤◌, List, [], ◌∷◌, length, take, drop, vec_len, vec_capacity}
 use Rattle.wb_port.specs.declared.runs.Run.{Run}
 use Rattle.wb_port.specs.declared.runs.Run.TheVariants as run
 use Rattle.wb_port.specs.declared.replays.End.{End}
@@ -21,8 +21,13 @@ moment_of d p =
       chip = p.chip;
       given = take p.given d.accesses;
       left = drop p.given d.accesses;
-      said = p.said;
+      said = p.said.items;
     }
+
+-- a byte for each access that is left finds its room
+pub record HasRoom (d : Talk) (p : Progress) : Type 0 where
+  pub few : vec_len p.said ≤ p.given
+  pub room : length d.accesses ≤ vec_capacity p.said
 
 -- the end of a run with the bytes that were said
 abbrev pub run_of : End → List ℕ → Run

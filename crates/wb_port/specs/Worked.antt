@@ -1,5 +1,5 @@
 -- The definitions at work: the wait loops of a few images.
-use Rattle.std.specs.Prelude.{◌≡◌, ℕ, ◌<◌, true, false, List, [], ◌∷◌, length, slice_index}
+use Rattle.std.specs.Prelude.{◌≡◌, ℕ, ◌+◌, ◌<◌, true, false, List, [], ◌∷◌, length, slice_index}
 use Rattle.wb_rom.specs.declared.images.Image.{Image}
 use Rattle.wb_port.specs.Wait.{is_poll, follow, to_gate}
 
@@ -41,11 +41,12 @@ pub record TwoWait (image : Image) : Type 0 where
   pub forth : follow image 2 ≡ 3
   pub back : follow image 3 ≡ 2
 
--- The first and the last of the eight words are polls; the first is seven words before the test.
+-- Each of the eight words is a poll and leads to the next one, the last, which is the test, to the first.
 pub record EightWait (image : Image) : Type 0 where
-  pub first : is_poll image 2 ≡ true
-  pub last : is_poll image 9 ≡ true
-  pub far : to_gate image 2 ≡ 7
+  pub polls : (j : ℕ) → j < 8 → is_poll image (2 + j) ≡ true
+  pub forth : (j : ℕ) → j < 7 → follow image (2 + j) ≡ 3 + j
+  pub back : follow image 9 ≡ 2
+  pub far : (j : ℕ) → j < 8 → j + to_gate image (2 + j) ≡ 7
 
 -- Neither the first nor the last of the nine words is a poll.
 pub record NineDoNot (image : Image) : Type 0 where

@@ -40,7 +40,7 @@ impl Chip {
     ghost use Rattle.wb_port.specs.Monitor.{place, word_at, is_idle, is_breach, is_leaving, observed, stepped, capped, capped_monitor};
     ghost use Rattle.wb_port.specs.Schedule.{powered, applied, reply_of};
 
-    /// The chip at power-up with an empty RAM, and an observer that has seen nothing.
+    /// The chip at power-up with a RAM of zeros, and an observer that has seen nothing.
     #[tactic(auto, using(crate::proofs::Steady::reset_is))]
     pub fn reset() -> Chip
         ensures { result ≡ powered (replicate 256 0) }

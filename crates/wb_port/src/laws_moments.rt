@@ -1,12 +1,13 @@
 //! What is true of every wait loop, every schedule and every run.
 
 ghost use Rattle.wb_rom.specs.declared.images.Image.{Image};
-ghost use Rattle.wb_port.specs.Endings.{LoopsArePolls, PollsBeginLoops, LoopsAreOne};
+ghost use Rattle.wb_port.specs.Endings.{LoopsArePolls, PollsBeginLoops, LoopsAreOne, LoopsShareNoAddress};
 ghost use Rattle.wb_port.specs.Endings.{RequestsAreAsked, AppliedChipsFollow, RunsComeToAnEnd};
 ghost use Rattle.wb_port.specs.Endings.{TrailsHoldThePoints};
+ghost use Rattle.wb_port.specs.NextPoint.{PointsGoOn};
 ghost use Rattle.wb_port.specs.Worked.{WorkedLoops};
 
-/// Each address of a wait loop is a poll.
+/// Each address of a wait loop begins it too, and is a poll.
 pub fn loops_are_polls()
     ensures { LoopsArePolls }
 {}
@@ -16,9 +17,14 @@ pub fn polls_begin_loops()
     ensures { PollsBeginLoops }
 {}
 
-/// An address is in one wait loop at most.
+/// An address begins one wait loop at most.
 pub fn loops_are_one()
     ensures { LoopsAreOne }
+{}
+
+/// Each address of a wait loop is in no other one.
+pub fn loops_share_no_address()
+    ensures { LoopsShareNoAddress }
 {}
 
 /// A request that stands is asked, at every moment of every schedule.
@@ -39,6 +45,11 @@ pub fn runs_come_to_an_end()
 /// The points of a trail are those that the held run passes.
 pub fn trails_hold_the_points()
     ensures { TrailsHoldThePoints }
+{}
+
+/// A point goes on by what it was and by what the machine shows then.
+pub fn points_go_on()
+    ensures { PointsGoOn }
 {}
 
 /// The wait loops of five programs, as the definitions have them.

@@ -1,6 +1,6 @@
 //! What one instruction, or one access, does to the host port, for every image and state.
 //! Each law is the contract of a function that does nothing.
-ghost use Rattle.wb_port.specs.Facts.{CalmWordsCommute, CalmWordsKeepThePort, OnlyRaisingWordsRequest, RaisingWordsRequest, RaisingWordsTouch, PollsRaiseNothing, PollsFollowPolls, GatesAreNear, PlacesComeNearer, TestsAreGates, LoopsHaveOneGate, IdleInstructionsMoveAlone, StatusReadsChangeNothing, AccessesRaiseNothing};
+ghost use Rattle.wb_port.specs.Facts.{CalmWordsCommute, CalmWordsKeepThePort, OnlyRaisingWordsRequest, RaisingWordsRequest, RaisingWordsTouch, PollsRaiseNothing, PollsFollowPolls, GatesAreNear, PlacesComeNearer, TestsAreGates, GatesAreTests, LoopsHaveOneGate, IdleInstructionsMoveAlone, StatusReadsChangeNothing, AccessesRaiseNothing};
 
 /// A word that doesn't touch the port can be executed before or after any access.
 pub fn calm_words_commute()
@@ -50,6 +50,11 @@ pub fn places_come_nearer()
 /// Where the word is a test, the test is no word away.
 pub fn tests_are_gates()
     ensures { TestsAreGates }
+{}
+
+/// The gate of a poll is the test of its loop.
+pub fn gates_are_tests()
+    ensures { GatesAreTests }
 {}
 
 /// All places of a loop have the same gate.

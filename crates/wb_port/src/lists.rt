@@ -1,4 +1,4 @@
-ghost use Rattle.std.specs.Prelude.{◌≡◌, ◌<◌, ℕ, List, [], ◌∷◌, ◌++◌, OnOk, OnErr, Some, length, slice_get, slice_index};
+ghost use Rattle.std.specs.Prelude.{◌≡◌, ◌<◌, ℕ, List, [], ◌∷◌, ◌++◌, IfOk, OnOk, OnErr, Some, length, slice_get, slice_index};
 
 use crate::accesses::Kind;
 use std::alloc::Global;
@@ -27,6 +27,13 @@ impl Replies {
         Replies {
             bytes: Vec::new(alloc),
         }
+    }
+
+    /// These bytes, which takes no memory.
+    pub fn from_vec(bytes: Vec<u8>) -> Self
+        ensures { result ≡ bytes.items }
+    {
+        Replies { bytes }
     }
 
     /// One more byte at the end.
@@ -82,6 +89,29 @@ impl Kinds {
         Kinds {
             items: Vec::new(alloc),
         }
+    }
+
+    /// These transfers, which takes no memory.
+    pub fn from_vec(items: Vec<Kind>) -> Self
+        ensures { result ≡ items.items }
+    {
+        Kinds { items }
+    }
+
+    /// An equal list.
+    pub fn copy(&self, alloc: Global) -> Result<Self, OutOfMemory>
+        ensures { IfOk result (λ kinds. kinds ≡ self.now) }
+    {
+        Ok(Kinds {
+            items: Vec::from_slice(alloc, self.list())?,
+        })
+    }
+
+    /// The kinds as a slice.
+    pub fn list(&self) -> &[Kind]
+        ensures { result.now ≡ self.now }
+    {
+        self.items.as_slice()
     }
 
     /// One more transfer at the end.

@@ -1,4 +1,4 @@
-ghost use Rattle.std.specs.Prelude.{◌≤◌, IfOk};
+ghost use Rattle.std.specs.Prelude.{◌≡◌, ◌≤◌, [], IfOk, length, vec_capacity};
 ghost use Rattle.wb_port.specs.Run.{EndsAs};
 
 use crate::accesses::Access;
@@ -37,25 +37,29 @@ pub(crate) struct Progress {
     pub(crate) chip: Chip,
     /// How many accesses were given.
     pub(crate) given: usize,
-    pub(crate) said: Replies,
+    /// The bytes that were said, with room for those that are to come.
+    pub(crate) said: Vec<u8>,
 }
 
 impl Progress {
-    ghost use Rattle.std.specs.Prelude.{◌≡◌, ◌<◌, ◌≤◌, OnOk, ◌++◌, IfOk, length};
+    ghost use Rattle.std.specs.Prelude.{◌≡◌, ◌+◌, ◌<◌, ◌≤◌, [], ◌++◌, length, vec_len, vec_capacity};
     ghost use Rattle.std.specs.Option.{option_to_list};
     ghost use Rattle.wb_port.specs.Port.{accessed, access_reply};
     ghost use Rattle.wb_port.specs.Run.{beginning, go, turn, is_waiting};
     ghost use Rattle.wb_port.specs.Talk.{Talk};
-    ghost use Rattle.wb_port.specs.Replay.{moment_of, run_of, IsTurned};
+    ghost use Rattle.wb_port.specs.Replay.{moment_of, run_of, HasRoom, IsTurned};
 
-    /// The beginning of a run.
-    pub(crate) fn begin(alloc: Global, talk: &Dialogue) -> Progress
-        ensures { moment_of talk.now result ≡ beginning talk.now }
+    /// The beginning of a run, whose bytes find their room in `said`.
+    pub(crate) fn begin(said: Vec<u8>, talk: &Dialogue) -> Progress
+        requires empty { said.items ≡ [] }
+        requires room { length talk.now.accesses ≤ vec_capacity said }
+        ensures moment { moment_of talk.now result ≡ beginning talk.now }
+        ensures room { HasRoom talk.now result }
     {
         Progress {
             chip: Chip::power(talk.start()),
             given: 0,
-            said: Replies::new(alloc),
+            said,
         }
     }
 
@@ -66,44 +70,47 @@ impl Progress {
         talk: &Dialogue,
         pace: u16,
         held: bool,
-    ) -> Result<Turned, OutOfMemory>
-        requires { self.old.chip.monitor.count ≤ pace }
-        ensures turned { IfOk result
-            (λ t. IsTurned t (turn image.now pace held (moment_of talk.now self.old))
-            (moment_of talk.now self.old) (moment_of talk.now self.new)) }
+    ) -> Turned
+        requires paced { self.old.chip.monitor.count ≤ pace }
+        requires room { HasRoom talk.now self.old }
+        ensures turned { IsTurned result (turn image.now pace held (moment_of talk.now self.old))
+            (moment_of talk.now self.old) (moment_of talk.now self.new) }
         ensures paced { self.new.chip.monitor.count ≤ pace }
+        ensures room { HasRoom talk.now self.new }
     {
         if self.given < talk.len() {
             if requested(&self.chip.machine) {
                 let access = talk.at(self.given);
-                self.give(access)?;
-                self.given += 1;
-                return Ok(Turned::Gave(access));
+                self.give(access);
+                return Turned::Gave(access);
             }
-            return Ok(self.go(image, pace));
+            return self.go(image, pace);
         }
         if !held {
-            return Ok(Turned::Ended(End::Answered));
+            return Turned::Ended(End::Answered);
         }
         if self.is_waiting(image) {
-            return Ok(Turned::Ended(End::Answered));
+            return Turned::Ended(End::Answered);
         }
-        Ok(self.go(image, pace))
+        self.go(image, pace)
     }
 
-    /// An access is given.
-    fn give(&mut self, access: Access) -> Result<(), OutOfMemory>
+    /// An access is given, whose byte finds room.
+    fn give(&mut self, access: Access)
+        requires more { self.old.given < usize.MAX }
+        requires room { vec_len self.old.said < vec_capacity self.old.said }
         ensures chip { self.new.chip
             ≡ record self.old.chip { machine = accessed access self.old.chip.machine } }
-        ensures said { OnOk result
-            (self.new.said
-            ≡ self.old.said ++ option_to_list (access_reply access self.old.chip.machine)) }
-        ensures given { self.new.given ≡ self.old.given }
+        ensures said { self.new.said.items
+            ≡ self.old.said.items ++ option_to_list (access_reply access self.old.chip.machine) }
+        ensures given { self.new.given ≡ self.old.given + 1 }
+        ensures len { vec_len self.new.said ≤ vec_len self.old.said + 1 }
+        ensures capacity { vec_capacity self.old.said ≤ vec_capacity self.new.said }
     {
         if let Some(byte) = self.chip.access(access) {
-            self.said.push(byte)?;
+            self.said.push(byte).unwrap();
         }
-        Ok(())
+        self.given += 1;
     }
 
     /// An instruction is executed, unless the pace is used up or the next word is a breach.
@@ -112,6 +119,7 @@ impl Progress {
         ensures turned { (d : Talk) → IsTurned result (go image.now pace (moment_of d self.old))
             (moment_of d self.old) (moment_of d self.new) }
         ensures paced { self.new.chip.monitor.count ≤ pace }
+        ensures room { (d : Talk) → HasRoom d self.old → HasRoom d self.new }
     {
         if self.chip.monitor.count == u64::from(pace) {
             return Turned::Ended(End::Overrun);
@@ -132,7 +140,7 @@ impl Progress {
 
     /// The end of the run, with the bytes that were said.
     pub(crate) fn end(self, end: End) -> Run
-        ensures { result ≡ run_of end self.said }
+        ensures { result ≡ run_of end self.said.items }
     {
         let Progress {
             chip: _,
@@ -140,7 +148,7 @@ impl Progress {
             said,
         } = self;
         match end {
-            End::Answered => Run::Answered(said),
+            End::Answered => Run::Answered(Replies::from_vec(said)),
             End::Overrun => Run::Overrun,
             End::Breach(at) => Run::Breach(at),
         }
@@ -149,7 +157,8 @@ impl Progress {
 
 /// The run of a dialogue on an image, plain or held, at a pace, begun from the dialogue's start.
 ///
-/// A plain run ends when no access is left. A held run then goes on until the chip waits at a poll.
+/// A plain run ends when no access is left. A held run then goes on until the chip waits at a poll. All memory is
+/// taken before the first instruction, so a run that has begun comes to its end.
 pub fn replay(
     alloc: Global,
     image: &Image,
@@ -160,11 +169,22 @@ pub fn replay(
     requires { 1 ≤ pace }
     ensures { IfOk result (EndsAs image.now pace held talk.now) }
 {
-    let mut now = Progress::begin(alloc, talk);
+    let said = Vec::with_capacity(alloc, talk.len())?;
+    Ok(replay_into(said, image, talk, pace, held))
+}
+
+/// The run of a dialogue, as `replay` has it, whose replies find their room in `said`. It takes no memory.
+pub fn replay_into(said: Vec<u8>, image: &Image, talk: &Dialogue, pace: u16, held: bool) -> Run
+    requires empty { said.items ≡ [] }
+    requires room { length talk.now.accesses ≤ vec_capacity said }
+    requires pace { 1 ≤ pace }
+    ensures { EndsAs image.now pace held talk.now result }
+{
+    let mut now = Progress::begin(said, talk);
     loop {
-        match now.turn(image, talk, pace, held)? {
-            Turned::Ended(end) => return Ok(now.end(end)),
-            _ => {},
+        let turned = now.turn(image, talk, pace, held);
+        if let Turned::Ended(end) = turned {
+            return now.end(end);
         }
     }
 }

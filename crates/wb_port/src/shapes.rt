@@ -1,36 +1,47 @@
-ghost use Rattle.std.specs.Prelude.{◌≡◌, ◌<◌, ◌≤◌, Some, IfOk, length, slice_get};
+ghost use Rattle.std.specs.Prelude.{◌≡◌, ◌<◌, ◌≤◌, Some, length, slice_get};
 
 use crate::accesses::Letter;
-use std::alloc::Global;
 use std::marker::Model;
 use wb_word::OutOfMemory;
 
 /// Which transfers the dialogues of a comparison may have: one letter for each place.
 #[derive(Drop)]
 pub struct Shape {
-    letters: Vec<Letter>,
+    letters: [Letter; 16],
+    len: usize,
 }
 
 impl Model for Shape {
-    ghost use Rattle.std.specs.Prelude.{List, ◌≤◌, length};
+    ghost use Rattle.std.specs.Prelude.{List, ◌≡◌, ◌≤◌, length, take};
     ghost use Rattle.wb_port.specs.declared.accesses.Letter.{Letter};
 
     ghost Value = { List Letter };
 
-    ghost view = { λ s. s.letters.items };
+    ghost view = { λ s. take s.len s.letters };
 
-    ghost invariant = { λ s. length s.letters.items ≤ 16 };
+    ghost invariant = { λ s. (s.len ≤ 16) × (length s.letters ≡ 16) };
 }
 
 impl Shape {
-    /// The shape with these letters.
-    pub fn from_letters(alloc: Global, letters: &[Letter]) -> Result<Self, OutOfMemory>
+    /// The shape with these letters. It takes no memory.
+    pub fn of(letters: &[Letter]) -> Self
         requires { length letters.now ≤ 16 }
-        ensures { IfOk result (λ shape. shape ≡ letters.now) }
+        ensures { result ≡ letters.now }
     {
-        Ok(Shape {
-            letters: Vec::from_slice(alloc, letters)?,
-        })
+        let mut kept = [Letter::X; 16];
+        kept[..letters.len()].copy_from_slice(letters);
+        Shape {
+            letters: kept,
+            len: letters.len(),
+        }
+    }
+
+    /// The shape with these letters, which is never refused.
+    pub fn from_letters(letters: &[Letter]) -> Result<Self, OutOfMemory>
+        requires { length letters.now ≤ 16 }
+        ensures { result ≡ Ok letters.now }
+    {
+        Ok(Shape::of(letters))
     }
 
     /// How many letters there are, 16 at most.
@@ -38,7 +49,7 @@ impl Shape {
         ensures value { result ≡ length self.now }
         ensures most { result ≤ 16 }
     {
-        self.letters.len()
+        self.len
     }
 
     /// The letter at a place.
@@ -49,7 +60,7 @@ impl Shape {
         self.letters[at]
     }
 
-    /// The letter at a place.
+    /// The letter at a place, as lists have it.
     pub fn at(&self, place: usize) -> Letter
         requires { place < length self.now }
         ensures { slice_get self.now place ≡ Some result }

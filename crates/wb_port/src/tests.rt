@@ -1,5 +1,3 @@
-mod schedules;
-
 use crate::{
     Access, Chip, Dialogue, Event, Letter, Run, Shape, Side, follow, is_poll, points_passed,
     replay, requested, to_gate,
@@ -312,7 +310,7 @@ fn a_start_shows_in_the_replies(rt: HostRuntime) -> Result<(), Fail> {
 
 #[test]
 fn shapes_keep_their_letters(rt: HostRuntime) -> Result<(), Fail> {
-    let shape = Shape::from_letters(rt.alloc(), &[Letter::W, Letter::R])?;
+    let shape = Shape::from_letters(&[Letter::W, Letter::R])?;
     assert_eq!(rt; shape.len(), 2);
     assert_eq!(rt; shape.letter_at(1), Letter::R);
     Ok(())

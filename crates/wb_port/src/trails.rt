@@ -26,11 +26,12 @@ pub fn points_passed(
     requires { 1 ≤ pace }
     ensures { IfOk result (IsTrail image.now side pace talk.now) }
 {
-    let mut now = Progress::begin(alloc, talk);
+    let said = Vec::with_capacity(alloc, talk.len())?;
+    let mut now = Progress::begin(said, talk);
     let mut points = Points::new(alloc);
     points.push(point(alloc, side, talk, &now)?)?;
     loop {
-        let turned = now.turn(image, talk, pace, true)?;
+        let turned = now.turn(image, talk, pace, true);
         if let Turned::Ended(_) = turned {
             return Ok(points);
         }

@@ -18,21 +18,30 @@ pub enum P {
 /// What the ALU computes, in the order of the codes.
 #[derive(Clone, Copy, PartialEq, Eq, Debug)]
 pub enum Alu {
+    /// Nothing: the accumulator and its flags stay.
     Nop,
     Or,
     And,
     Xor,
     Sub,
     Add,
+    /// A difference that also takes away the other accumulator's carry.
     Sbb,
+    /// A sum that also adds the other accumulator's carry.
     Adc,
     Dec,
     Inc,
+    /// Inverts each bit: the complement, and no comparison.
     Cmp,
+    /// Shifts right by 1 and keeps bit 15.
     Shr1,
+    /// Shifts left by 1; the other accumulator's carry comes in.
     Shl1,
+    /// Shifts left by 2; ones come in.
     Shl2,
+    /// Shifts left by 4; ones come in.
     Shl4,
+    /// Exchanges the two bytes.
     Xchg,
 }
 
@@ -59,42 +68,59 @@ pub enum Dpl {
 /// What an instruction puts on the bus.
 #[derive(Clone, Copy, PartialEq, Eq, Debug)]
 pub enum Src {
+    /// The second temporary register.
     Trb,
     A,
     B,
     Tr,
     Dp,
     Rp,
+    /// The data ROM at RP.
     Ro,
+    /// 7FFF where S1 of A is 1, else 8000: after an overflow the limit on its side.
     Sgn,
+    /// The data register; a request is raised.
     Dr,
+    /// The data register, without a request.
     Drnf,
     Sr,
+    /// The serial input, which is idle: 0.
     Sim,
+    /// The serial input in the other order of bits, idle too: 0.
     Sil,
     K,
     L,
+    /// The RAM at DP.
     Mem,
 }
 
 /// Where the bus is moved to.
 #[derive(Clone, Copy, PartialEq, Eq, Debug)]
 pub enum Dst {
+    /// Nowhere.
     Non,
     A,
     B,
     Tr,
     Dp,
     Rp,
+    /// The data register; a request is raised.
     Dr,
+    /// The bits of the status register that an instruction may write.
     Sr,
+    /// The serial output register.
     Sol,
+    /// The serial output register too: the orders of bits don't differ here.
     Som,
     K,
+    /// K takes the bus, and L the data ROM at RP.
     Klr,
+    /// L takes the bus, and K the RAM at DP with its bit 6 set.
     Klm,
     L,
+    /// The second temporary register.
     Trb,
+    /// The RAM at DP.
     Mem,
 }
 

@@ -70,6 +70,13 @@ fn words_are_instructions(rt: HostRuntime) {
         (0x158090, computed(Alu::Add, Acc::B, P::Idb, Src::Drnf)),
         (0x138010, computed(Alu::Xor, Acc::B, P::Idb, Src::A)),
         (0x210000, computed(Alu::Or, Acc::A, P::M, Src::Trb)),
+        (0x128010, computed(Alu::And, Acc::B, P::Idb, Src::A)),
+        (0x0600F0, computed(Alu::Sbb, Acc::A, P::Ram, Src::Mem)),
+        (0x3A8000, computed(Alu::Cmp, Acc::B, P::N, Src::Trb)),
+        (0x0B0000, computed(Alu::Shr1, Acc::A, P::Ram, Src::Trb)),
+        (0x0C8000, computed(Alu::Shl1, Acc::B, P::Ram, Src::Trb)),
+        (0x1D0060, computed(Alu::Shl2, Acc::A, P::Idb, Src::Ro)),
+        (0x2E8000, computed(Alu::Shl4, Acc::B, P::M, Src::Trb)),
         (0x3FFFFF, Instr::Op(full())),
         (0x400000, Instr::Rt(idle())),
         (0x7FFFFF, Instr::Rt(full())),
@@ -140,16 +147,6 @@ fn numbers_end_at_their_widths(rt: HostRuntime) {
     assert!(rt; Spare::new(3).is_some() && Spare::new(4).is_none());
     assert!(rt; OtherCode::new(0x0BD).is_some() && OtherCode::new(0x0BE).is_none());
     assert!(rt; OtherCode::new(511).is_some() && OtherCode::new(512).is_none());
-}
-
-#[test]
-fn codes_have_names(rt: HostRuntime) {
-    assert_eq!(rt; Alu::Shl4.name(), "shl4");
-    assert_eq!(rt; Dpl::from_code(2).name(), "dpdec");
-    assert_eq!(rt; Src::from_code(9).name(), "drnf");
-    assert_eq!(rt; Dst::from_code(12).name(), "klm");
-    assert_eq!(rt; Cond::from_code(0x0B3).name(), Some("jdplnf"));
-    assert_eq!(rt; Cond::from_code(0x0B5).name(), None);
 }
 
 // Both ways round, from the contracts alone.

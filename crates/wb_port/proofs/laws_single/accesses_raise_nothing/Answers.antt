@@ -1,4 +1,4 @@
-use Rattle.wb_port.proofs.EveryFacts.{access_raises_nothing}
+use Rattle.wb_port.proofs.Facts.{access_raises_nothing}
 use Rattle.wb_port.proofs.laws_single.accesses_raise_nothing.Goals as goal
 
 pub returns : goal.returns

@@ -1,4 +1,4 @@
-use Rattle.wb_port.proofs.EveryFacts.{calm_commutes}
+use Rattle.wb_port.proofs.Facts.{calm_commutes}
 use Rattle.wb_port.proofs.laws_single.calm_words_commute.Goals as goal
 
 pub returns : goal.returns

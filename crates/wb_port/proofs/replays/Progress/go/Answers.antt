@@ -24,7 +24,7 @@ returns-clause-turned c =
     let small = capped_is (stepped c.args.image.now c.args.self.now.chip) (omega arith) in
     λ d. go_steps c.args.image.now c.args.pace (moment_of d c.args.self.now)
     (λ e. c.if-self-from.false (e ∙ sym c.from.ensures)) (sym c.if-is_breach.ensures)
-    ∙ ap (λ (x : Chip). Steps (record { chip = x; given = take c.args.self.now.given d.accesses; left = drop c.args.self.now.given d.accesses; said = c.args.self.now.said })) (sym (c.step.ensures ∙ small))
+    ∙ ap (λ (x : Chip). Steps (record { chip = x; given = take c.args.self.now.given d.accesses; left = drop c.args.self.now.given d.accesses; said = c.args.self.now.said.items })) (sym (c.step.ensures ∙ small))
 
 pub returns-clause-paced : goal.returns-clause-paced
 returns-clause-paced c =

@@ -4,9 +4,9 @@ use Rattle.wb_port.proofs.replays.Progress.turn.Goals as goal
 
 pub returns-then-requested-clause-turned : goal.returns-then-requested-clause-turned
 returns-then-requested-clause-turned c =
-    gave c.args.image.now c.args.pace c.args.held c.args.talk.now c.args.self.now _ c.at-access.result
-    c.at-access.ensures (sym c.if-requested.ensures) c.in_ok-give.ensures.chip
-    (ap (λ (n : ℕ). n + 1) c.in_ok-give.ensures.given) c.in_ok-give.ensures.said
+    gave c.args.image.now c.args.pace c.args.held c.args.talk.now c.args.self.now c.give.new.self c.at-access.result
+    c.at-access.ensures (sym c.if-requested.ensures) c.give.ensures.chip
+    c.give.ensures.given c.give.ensures.said
 
 pub returns-then-self-len-clause-turned : goal.returns-then-self-len-clause-turned
 returns-then-self-len-clause-turned c =

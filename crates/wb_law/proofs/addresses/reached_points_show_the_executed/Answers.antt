@@ -1,0 +1,5 @@
+use Rattle.wb_law.proofs.Executing.{reached_points_show_the_executed}
+use Rattle.wb_law.proofs.addresses.reached_points_show_the_executed.Goals as goal
+
+pub returns : goal.returns
+returns c = reached_points_show_the_executed

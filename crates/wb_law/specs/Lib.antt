@@ -1,0 +1,11 @@
+pub mod Addresses
+pub mod Counts
+pub mod Course
+pub mod Points
+pub mod PortFacts
+pub mod Reached
+pub mod Requests
+pub mod Runs
+pub mod Schedules
+pub mod Strides
+pub mod Waits

@@ -1,0 +1,22 @@
+//! The addresses that held runs execute, by their points.
+ghost use Rattle.wb_law.specs.Addresses.{PointsTellWhatComes, ExecutedAddressesAreShown, ShownAddressesAreExecuted, ReachedPointsShowTheExecuted};
+
+/// The point of a moment tells whether its held chip rests, and how it stops.
+pub fn points_tell_what_comes()
+    ensures { PointsTellWhatComes }
+{}
+
+/// Each executed address is shown by a point.
+pub fn executed_addresses_are_shown()
+    ensures { ExecutedAddressesAreShown }
+{}
+
+/// Each address that a point with all kinds shows is executed.
+pub fn shown_addresses_are_executed()
+    ensures { ShownAddressesAreExecuted }
+{}
+
+/// Some fitting dialogue executes an address exactly where some reached point shows it.
+pub fn reached_points_show_the_executed()
+    ensures { ReachedPointsShowTheExecuted }
+{}

@@ -1,0 +1,164 @@
+// Schedules of lazy hosts, event by event, beside the run of the eager host that holds the same talk.
+use std::alloc::Global;
+use std::test::Fail;
+use wb_port::{Access, Chip, Dialogue, Event, Replies, Run, replay, requested};
+use wb_rom::Image;
+
+// Each byte is given back after some work, and the chip waits at its own jumps on RQM.
+const WORK: &[u32] = &[
+    0xC10007, 0x000080, 0x098000, 0x098000, 0x098000, 0x97C014, 0x000091, 0x000016, 0x97C020,
+    0xA00004,
+];
+
+// Each word is given back, in two halves.
+const WIDE: &[u32] = &[0x000080, 0x97C004, 0x000091, 0x000016, 0x97C010, 0xA00000];
+
+// Each byte is given back, and the chip waits for it in a loop of two words.
+const LOOP: &[u32] = &[
+    0xC10007, 0x000080, 0x978010, 0xA00008, 0x000091, 0x000016, 0x97C018, 0xA00004,
+];
+
+// A byte is given back, and the chip waits for it in a loop of eight words.
+const EIGHT_WORDS: &[u32] = &[
+    0xC10007, 0x000080, 0, 0, 0, 0, 0, 0, 0, 0x97C008, 0x000091, 0x000016, 0x97C030, 0xA00004,
+];
+
+const BYTES: &[Access] = &[
+    Access::Write(0x5A),
+    Access::Read,
+    Access::Write(0xC3),
+    Access::Read,
+];
+
+// Two halves of a word are written, and both are read.
+const HALVES: &[Access] = &[
+    Access::Write(0x34),
+    Access::Write(0x12),
+    Access::Read,
+    Access::Read,
+];
+
+/// The image with these words, and zeros after them.
+fn image_of(alloc: Global, words: &[u32]) -> Result<Image, Fail> {
+    let mut bytes = Vec::new(alloc);
+    for word in words {
+        bytes.extend_from_slice(&word.to_le_bytes()[..3])?;
+    }
+    bytes.resize(8192, 0)?;
+    Ok(Image::from_bytes(alloc, &bytes)?)
+}
+
+/// A schedule so far: the chip after it, its talk, and what it said.
+#[derive(Drop)]
+struct Course {
+    chip: Chip,
+    talk: Dialogue,
+    said: Replies,
+}
+
+impl Course {
+    fn new(alloc: Global) -> Self {
+        Course {
+            chip: Chip::reset(),
+            talk: Dialogue::new(alloc),
+            said: Replies::new(alloc),
+        }
+    }
+
+    /// An access of the host, which stands in the talk where it finds a request.
+    fn access(&mut self, image: &Image, access: Access) -> Result<(), Fail> {
+        let asked = requested(&self.chip.machine);
+        let reply = self.chip.apply(image, Event::Host(access));
+        if asked {
+            self.talk.push(access)?;
+            if let Some(byte) = reply {
+                self.said.push(byte)?;
+            }
+        }
+        Ok(())
+    }
+
+    /// So many instructions, each after a status read where the host looks.
+    fn instructions(&mut self, image: &Image, count: u32, looks: bool) -> Result<(), Fail> {
+        for _ in 0..count {
+            if looks {
+                self.access(image, Access::Status)?;
+            }
+            self.chip.apply(image, Event::Step);
+        }
+        Ok(())
+    }
+
+    /// Instructions until a request stands, which it does within a few.
+    fn request(&mut self, image: &Image, looks: bool) -> Result<(), Fail> {
+        for _ in 0..20 {
+            if requested(&self.chip.machine) {
+                break;
+            }
+            self.instructions(image, 1, looks)?;
+        }
+        Ok(())
+    }
+}
+
+/// A host that gives each access so many instructions after it finds a request.
+fn lazy_course(
+    alloc: Global,
+    image: &Image,
+    accesses: &[Access],
+    lazy: u32,
+    looks: bool,
+) -> Result<Course, Fail> {
+    let mut course = Course::new(alloc);
+    for access in accesses {
+        course.request(image, looks)?;
+        course.instructions(image, lazy, looks)?;
+        course.access(image, *access)?;
+    }
+    Ok(course)
+}
+
+#[test]
+fn lazy_hosts_hold_the_talks_of_eager_ones(rt: HostRuntime) -> Result<(), Fail> {
+    let alloc = rt.alloc();
+    let images = [
+        (WORK, BYTES, 6),
+        (WIDE, HALVES, 4),
+        (LOOP, BYTES, 5),
+        (EIGHT_WORDS, BYTES, 5),
+    ];
+    for (words, accesses, pace) in images {
+        let image = image_of(alloc, words)?;
+        for lazy in 0..21 {
+            for looks in [false, true] {
+                let course = lazy_course(alloc, &image, accesses, lazy, looks)?;
+                assert_eq!(rt; course.chip.monitor.breach, None);
+                let run = replay(alloc, &image, &course.talk, pace, false)?;
+                let replies = match &run {
+                    Run::Answered(replies) => replies.bytes(),
+                    _ => &[],
+                };
+                assert_eq!(rt; replies, course.said.bytes(), "{lazy} instructions late");
+            }
+        }
+    }
+    Ok(())
+}
+
+#[test]
+fn lazy_hosts_hear_what_they_wrote(rt: HostRuntime) -> Result<(), Fail> {
+    let alloc = rt.alloc();
+    let rows: [(&[u32], &[Access], &[u8]); 3] = [
+        (WORK, BYTES, &[0x5A, 0xC3]),
+        (WIDE, HALVES, &[0x34, 0x12]),
+        (EIGHT_WORDS, BYTES, &[0x5A, 0xC3]),
+    ];
+    for (words, accesses, bytes) in rows {
+        let image = image_of(alloc, words)?;
+        for lazy in [0, 3, 20] {
+            let course = lazy_course(alloc, &image, accesses, lazy, false)?;
+            assert_eq!(rt; course.said.bytes(), bytes);
+        }
+    }
+    Ok(())
+}

@@ -1,0 +1,25 @@
+//! The parts of a chip stay in their ranges, whatever host and chip do.
+ghost use Rattle.wb_port.specs.Ranges.{AccessesKeepRanges, SchedulesKeepRanges, RunsKeepRanges};
+
+use wb_machine::{ranges_are_kept, starts_are_in_range};
+
+/// An access keeps the ranges of all parts.
+pub fn accesses_keep_ranges()
+    ensures { AccessesKeepRanges }
+{}
+
+/// The parts of a chip are in their ranges at every moment of every schedule.
+pub fn schedules_keep_ranges()
+    ensures { SchedulesKeepRanges }
+{
+    ranges_are_kept();
+    starts_are_in_range();
+}
+
+/// The parts of a chip are in their ranges at every moment of every run.
+pub fn runs_keep_ranges()
+    ensures { RunsKeepRanges }
+{
+    ranges_are_kept();
+    starts_are_in_range();
+}
