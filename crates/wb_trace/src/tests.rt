@@ -19,6 +19,12 @@ const SLOW: &[u32] = &[
 /// Sends back each word that it is sent, in two bytes.
 const WIDE: &[u32] = &[0x000080, 0x97C004, 0x000091, 0x000016, 0x97C010, 0xA00000];
 
+/// Sends back each byte that it is sent, but C4 for C3.
+const CHANGED: &[u32] = &[
+    0xC10007, 0x000080, 0x97C008, 0x000091, 0xC030C2, 0x138010, 0x918020, 0x090000, 0x000016,
+    0x97C024, 0xA00004,
+];
+
 /// Does nothing, at each address.
 const IDLE: &[u32] = &[];
 
@@ -49,7 +55,7 @@ fn traced(
 
 #[test]
 fn moves_come_to_their_lines(rt: HostRuntime) -> Result<(), Fail> {
-    let cases: [(&[u32], &[u32], usize, &[u8], &[u8]); 9] = [
+    let cases: [(&[u32], &[u32], usize, &[u8], &[u8]); 10] = [
         (
             ECHO,
             SLOW,
@@ -102,6 +108,14 @@ fn moves_come_to_their_lines(rt: HostRuntime) -> Result<(), Fail> {
             9,
             b"A\nB\nW 34\nW 12\nU\nW 56\nA\nA\nA\nP\nR\nB\nB\nB\nR\nU\nR\nR\n",
             b"A 000\nB 000\nW 34\nW 12\nU\nW 56\nA 001\nA 002\nA 003\nP A 004 5634 8000 5634 0000\nP B 001 5634 0000 0000 0000\nBUSY B\nB 001\nB 002\nB 003\nR 34 34\nU\nR 34 34\nR 56 56\nDONE\n",
+        ),
+        // The changed program leaves the old one at its instruction 007.
+        (
+            ECHO,
+            CHANGED,
+            64,
+            b"A\nA\nB\nB\nW C3\nA\nA\nA\nP\nB\nB\nB\nB\nB\nB\nB\nP\nR\nU\nU\nU\nP\nB\nP\n",
+            b"A 000\nA 001\nB 000\nB 001\nW C3\nA 002\nA 003\nA 004\nP A 005 00C3 8400 00C3 0000\nP B 002 00C3 0400 0000 0000\nB 002\nB 003\nB 004\nB 005\nB 006\nB 007\nB 008\nP A 005 00C3 8400 00C3 0000\nP B 009 00C4 8400 00C4 0000\nR C3 C4\nU\nU\nU\nP A 005 00C3 8400 00C3 0000\nP B 007 00C3 0400 00C3 0000\nB 007\nP A 005 00C3 8400 00C3 0000\nP B 008 00C3 0400 00C4 0000\nDONE\n",
         ),
         (
             IDLE,
