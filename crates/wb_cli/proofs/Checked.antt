@@ -1,5 +1,5 @@
 -- What contents come to that are checked one after the other.
-use Rattle.std.proofs.Common.{◌≡◌, ℕ, ◌+◌, List, ◌∷◌, Result, Ok, Err, inl, inr}
+use Rattle.std.proofs.Common.{◌≡◌, ℕ, ◌+◌, List, [], ◌∷◌, Result, Ok, Err, inl, inr}
 use Rattle.wb_cli.specs.declared.files.Kind.{Kind}
 use Rattle.wb_cli.specs.declared.files.Kind.TheVariants as kind
 use Rattle.wb_cli.specs.declared.outcomes.Outcome.{Outcome}
@@ -18,14 +18,23 @@ pub second_refused : (task : Task) (first second : Kind) (kinds : List Kind) (by
 second_refused task first second kinds bytes next contents held (Refused refusal) holds refused = inr ((held, holds), inl refused)
 second_refused task first second kinds bytes next contents held OutOfMemory holds refused = tt
 
+-- the third content is refused, or its memory
+pub third_refused : (task : Task) (first second third : Kind) (bytes next last : List ℕ) (held also : Held) (stop : Stop)
+    → Holds first bytes held → Holds second next also → ChecksTo third 2 last (Err stop)
+    → WorksTo task (first ∷ second ∷ third ∷ []) (bytes ∷ next ∷ last ∷ []) (Err stop)
+third_refused task first second third bytes next last held also (Refused refusal) holds more refused = inr ((held, holds), inr ((also, more), inl refused))
+third_refused task first second third bytes next last held also OutOfMemory holds more refused = tt
+
 -- no content is refused as one that wasn't read
 unread_refuses : (kind : Kind) (place : ℕ) (bytes : List ℕ) (at : ℕ) → IsRefused kind place bytes (refusal.ReadFault at) → ⊥
 unread_refuses kind.Image place bytes at h = h
 unread_refuses kind.Script place bytes at h = h
+unread_refuses kind.Moves place bytes at h = h
 
 longer_refuses : (kind : Kind) (place : ℕ) (bytes : List ℕ) (at : ℕ) → IsRefused kind place bytes (refusal.TooLong at) → ⊥
 longer_refuses kind.Image place bytes at h = h
 longer_refuses kind.Script place bytes at h = h
+longer_refuses kind.Moves place bytes at h = h
 
 never_unread : (place : ℕ) (kinds : List Kind) (contents : List (List ℕ)) (at : ℕ) → FirstRefused place kinds contents (refusal.ReadFault at) → ⊥
 never_unread place (kind ∷ kinds) (bytes ∷ contents) at h =

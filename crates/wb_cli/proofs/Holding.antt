@@ -8,7 +8,8 @@ use Rattle.wb_cli.specs.declared.files.Kind.{Kind}
 use Rattle.wb_cli.specs.declared.files.Kind.TheVariants as kind
 use Rattle.wb_cli.specs.declared.refusals.Refusal.{Refusal}
 use Rattle.wb_cli.specs.declared.refusals.Refusal.TheVariants as refusal
-use Rattle.wb_cli.specs.Checks.{Held, AnImage, AScript, Holds, IsRefused, HoldsAll, FirstRefused}
+use Rattle.wb_trace.specs.Moves.{EachTextHasOneAnswer}
+use Rattle.wb_cli.specs.Checks.{Held, AnImage, AScript, SomeMoves, Holds, IsRefused, HoldsAll, FirstRefused}
 
 -- what the crates below say of images and scripts
 pub record KindLaws : Type 0 where
@@ -16,12 +17,16 @@ pub record KindLaws : Type 0 where
   pub one_script : (text : List ℕ) (items others : List Item) → IsScript text items → IsScript text others → items ≡ others
   pub one_line : (text : List ℕ) (line other : ℕ) → IsFirstBad text line → IsFirstBad text other → line ≡ other
   pub script_never_both : (text : List ℕ) (items : List Item) (line : ℕ) → IsScript text items → IsFirstBad text line → ⊥
+  pub moves : EachTextHasOneAnswer
 
 never_both : KindLaws → (kind : Kind) (place : ℕ) (bytes : List ℕ) (held : Held) (refusal : Refusal) → Holds kind bytes held → IsRefused kind place bytes refusal → ⊥
 never_both laws kind.Image place bytes (AnImage image) (refusal.ImageLength at found) holds refused = refused.2 holds.len
 never_both laws kind.Image place bytes (AnImage image) _ holds refused = refused
 never_both laws kind.Script place text (AScript items) (refusal.ScriptLine line) holds refused = laws.script_never_both text items line holds refused
 never_both laws kind.Script place text (AScript items) _ holds refused = refused
+never_both laws kind.Moves place text (SomeMoves moves) (refusal.MovesLine line) holds refused =
+    laws.moves.never_both text moves line holds refused
+never_both laws kind.Moves place text (SomeMoves moves) _ holds refused = refused
 never_both laws _ place bytes _ refusal holds refused = holds
 
 one_held : KindLaws → (kind : Kind) (bytes : List ℕ) (held other : Held) → Holds kind bytes held → Holds kind bytes other → held ≡ other
@@ -29,6 +34,8 @@ one_held laws kind.Image bytes (AnImage image) (AnImage other) h k = ap AnImage 
 one_held laws kind.Image bytes (AnImage image) _ h k = absurd k
 one_held laws kind.Script text (AScript items) (AScript others) h k = ap AScript (laws.one_script text items others h k)
 one_held laws kind.Script text (AScript items) _ h k = absurd k
+one_held laws kind.Moves text (SomeMoves moves) (SomeMoves others) h k = ap SomeMoves (laws.moves.one_list text moves others h k)
+one_held laws kind.Moves text (SomeMoves moves) _ h k = absurd k
 one_held laws _ bytes _ other h k = absurd h
 
 one_refusal : KindLaws → (kind : Kind) (place : ℕ) (bytes : List ℕ) (refusal other : Refusal) → IsRefused kind place bytes refusal → IsRefused kind place bytes other → refusal ≡ other
@@ -36,6 +43,9 @@ one_refusal laws kind.Image place bytes (refusal.ImageLength at found) (refusal.
 one_refusal laws kind.Image place bytes (refusal.ImageLength at found) _ h k = absurd k
 one_refusal laws kind.Script place text (refusal.ScriptLine line) (refusal.ScriptLine other) h k = ap refusal.ScriptLine (laws.one_line text line other h k)
 one_refusal laws kind.Script place text (refusal.ScriptLine line) _ h k = absurd k
+one_refusal laws kind.Moves place text (refusal.MovesLine line) (refusal.MovesLine other) h k =
+    ap refusal.MovesLine (laws.moves.one_line text line other h k)
+one_refusal laws kind.Moves place text (refusal.MovesLine line) _ h k = absurd k
 one_refusal laws _ place bytes _ other h k = absurd h
 
 -- the same of all contents

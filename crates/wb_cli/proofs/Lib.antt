@@ -1,3 +1,4 @@
+mod Digits
 mod Holding
 mod Once
 mod Valid

@@ -18,11 +18,11 @@ use Rattle.wb_cli.specs.declared.statuses.Ending.TheVariants as ending
 use Rattle.wb_cli.specs.declared.statuses.Status.{Status}
 use Rattle.wb_cli.specs.declared.statuses.Status.TheVariants as status
 use Rattle.wb_cli.specs.Answers.{Answers, Met, Put, Writes}
-use Rattle.wb_cli.specs.Checks.{Held, AnImage, AScript, FirstRefused}
+use Rattle.wb_cli.specs.Checks.{Held, AnImage, AScript, SomeMoves, FirstRefused}
 use Rattle.wb_cli.specs.Files.{Contents, limit_of, Reads, ReadsAll, FirstUnread, CouldNot, TooLong}
 use Rattle.wb_cli.specs.Once.{AreAlike, IsCalm, TookOneText}
 use Rattle.wb_cli.specs.Outcome.{Makes, Works, PlanComesTo, ComesTo}
-use Rattle.wb_cli.specs.Plan.{NamedFile, Plan, Task, Run, kinds_of, plan_of}
+use Rattle.wb_cli.specs.Plan.{NamedFile, Plan, Task, Run, Disassemble, Trace, kinds_of, plan_of}
 use Rattle.wb_cli.specs.Report.{IsReply, IsReport}
 use Rattle.wb_cli.specs.Status.{ending_status}
 use Rattle.wb_cli.proofs.Holding.{KindLaws, held_once, refused_once, held_or_refused}
@@ -36,11 +36,19 @@ pub record WorkLaws : Type 0 where
 makes_once : WorkLaws → (task : Task) (held : List Held) (made other : Outcome) → Makes task held made → Makes task held other → made ≡ other
 makes_once laws Run (AnImage image ∷ AScript items ∷ []) (outcome.Ran transcript) (outcome.Ran other) h k =
     ap outcome.Ran (laws.one_transcript image items transcript other h k)
-makes_once laws Run _ made other h k = absurd h
+makes_once laws Run (AnImage image ∷ AScript items ∷ []) (outcome.Ran transcript) _ h k = absurd k
+makes_once laws Disassemble (AnImage image ∷ []) (outcome.Listed listed) (outcome.Listed other) h k = ap outcome.Listed (h ∙ sym k)
+makes_once laws Disassemble (AnImage image ∷ []) (outcome.Listed listed) _ h k = absurd k
+makes_once laws (Trace depth) (AnImage a ∷ AnImage b ∷ SomeMoves moves ∷ []) (outcome.Traced text) (outcome.Traced other) h k =
+    ap outcome.Traced (h ∙ sym k)
+makes_once laws (Trace depth) (AnImage a ∷ AnImage b ∷ SomeMoves moves ∷ []) (outcome.Traced text) _ h k = absurd k
+makes_once laws _ _ _ other h k = absurd h
 
 -- an outcome has one report
 report_once : (made : Outcome) (text other : List ℕ) → IsReport made text → IsReport made other → text ≡ other
 report_once (outcome.Ran transcript) text other h k = h ∙ sym k
+report_once (outcome.Listed image) text other h k = h ∙ sym k
+report_once (outcome.Traced traced) text other h k = h ∙ sym k
 
 replied_once : (result : Result Outcome Refusal) (end last : Ending) (text other : List ℕ) → IsReply result end text → IsReply result last other → (end ≡ last) × (text ≡ other)
 replied_once (Ok made) end last text other h k = (h.0 ∙ sym k.0, report_once made text other h.1 k.1)

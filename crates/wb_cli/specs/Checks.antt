@@ -6,6 +6,8 @@ use Rattle.wb_rom.specs.declared.images.Image.{Image}
 use Rattle.wb_rom.specs.ImageBytes.{IsImageOf}
 use Rattle.wb_script.specs.declared.items.Item.{Item}
 use Rattle.wb_script.specs.Script.{IsScript, IsFirstBad}
+use Rattle.wb_trace.specs.declared.moves.Move.{Move}
+use Rattle.wb_trace.specs.Moves as moves_file
 use Rattle.wb_cli.specs.declared.files.Kind.{Kind}
 use Rattle.wb_cli.specs.declared.files.Kind.TheVariants as kind
 use Rattle.wb_cli.specs.declared.refusals.Refusal.{Refusal}
@@ -17,11 +19,13 @@ use Rattle.wb_cli.specs.declared.refusals.Stop.TheVariants.{Refused, OutOfMemory
 pub data Held : Type 0 where
   AnImage : Image → Held
   AScript : List Item → Held
+  SomeMoves : List Move → Held
 
 -- the content of a file that must hold something of this kind holds this
 abbrev pub Holds : Kind → List ℕ → Held → Type 0
 Holds kind.Image bytes (AnImage image) = IsImageOf bytes image
 Holds kind.Script text (AScript items) = IsScript text items
+Holds kind.Moves text (SomeMoves moves) = moves_file.AreMovesOf text moves
 Holds _ _ _ = ⊥
 
 -- the content at a place, counted from 0, isn't of this kind, and is refused so
@@ -29,6 +33,7 @@ abbrev pub IsRefused : Kind → ℕ → List ℕ → Refusal → Type 0
 IsRefused kind.Image place bytes (refusal.ImageLength at found) =
     (at ≡ place) × (found ≡ length bytes) × (length bytes ≢ 8192)
 IsRefused kind.Script place text (refusal.ScriptLine line) = IsFirstBad text line
+IsRefused kind.Moves place text (refusal.MovesLine line) = moves_file.IsFirstBad text line
 IsRefused _ _ _ _ = ⊥
 
 -- what checking the content at a place comes to

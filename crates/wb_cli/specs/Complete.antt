@@ -9,7 +9,7 @@ use Rattle.wb_cli.specs.Answers.{Answers, Met, Put}
 use Rattle.wb_cli.specs.Checks.{Held, HoldsAll}
 use Rattle.wb_cli.specs.Files.{Contents, limit_of}
 use Rattle.wb_cli.specs.Outcome.{Makes}
-use Rattle.wb_cli.specs.Plan.{NamedFile, Plan, Task, Run, kinds_of, plan_of}
+use Rattle.wb_cli.specs.Plan.{NamedFile, Plan, Task, Run, Disassemble, Trace, kinds_of, plan_of}
 use Rattle.wb_cli.specs.Report.{outcome_ending}
 use Rattle.wb_cli.specs.Status.{ending_status}
 
@@ -42,9 +42,9 @@ ValidCallsAreDone = (met : Met) (put : Put) (answer : Status) (plan : Plan) (hel
 
 -- the statuses of work that was done: 0, and 1 for a script that ended early or silent
 abbrev pub IsExpected : Task → Status → Type 0
-IsExpected Run status.Fine = Unit {0}
 IsExpected Run status.Shown = Unit {0}
-IsExpected Run _ = ⊥
+IsExpected _ status.Fine = Unit {0}
+IsExpected _ _ = ⊥
 
 -- done work ends with a status of its task
 abbrev pub DoneWorkIsExpected : Type 0

@@ -7,6 +7,7 @@ use Rattle.std.specs.declared.option.Option.TheVariants.{Some, None}
 use Rattle.std.specs.declared.result.Result.{Result}
 use Rattle.std.specs.declared.result.Result.TheVariants.{Ok, Err}
 use Rattle.wb_session.specs.Transcript.{IsTranscript}
+use Rattle.wb_trace.specs.Texts.{trace_bytes}
 use Rattle.wb_cli.specs.declared.files.Kind.{Kind}
 use Rattle.wb_cli.specs.declared.outcomes.Outcome.{Outcome}
 use Rattle.wb_cli.specs.declared.outcomes.Outcome.TheVariants as outcome
@@ -14,14 +15,17 @@ use Rattle.wb_cli.specs.declared.refusals.Refusal.{Refusal}
 use Rattle.wb_cli.specs.declared.refusals.Refusal.TheVariants as refusal
 use Rattle.wb_cli.specs.declared.refusals.Stop.{Stop}
 use Rattle.wb_cli.specs.declared.refusals.Stop.TheVariants.{Refused, OutOfMemory}
-use Rattle.wb_cli.specs.Checks.{Held, AnImage, AScript, HoldsAll, FirstRefused}
+use Rattle.wb_cli.specs.Checks.{Held, AnImage, AScript, SomeMoves, HoldsAll, FirstRefused}
 use Rattle.wb_cli.specs.Files.{Contents, ReadsAll, FirstUnread, CouldNot, TooLong}
-use Rattle.wb_cli.specs.Plan.{Plan, Task, Run, kinds_of}
+use Rattle.wb_cli.specs.Plan.{Plan, Task, Run, Disassemble, Trace, kinds_of}
 
 -- what a task makes of what the files hold
 abbrev pub Makes : Task → List Held → Outcome → Type 0
 Makes Run (AnImage image ∷ AScript items ∷ []) (outcome.Ran transcript) = IsTranscript image items transcript
-Makes Run _ _ = ⊥
+Makes Disassemble (AnImage image ∷ []) (outcome.Listed listed) = listed ≡ image
+Makes (Trace depth) (AnImage a ∷ AnImage b ∷ SomeMoves moves ∷ []) (outcome.Traced text) =
+    text ≡ trace_bytes a b depth moves
+Makes _ _ _ = ⊥
 
 -- the contents are of these kinds, and the task made this of them
 pub record Works (task : Task) (kinds : List Kind) (contents : List (List ℕ)) (made : Outcome) : Type 0 where

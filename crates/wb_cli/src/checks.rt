@@ -1,13 +1,14 @@
 //! The contents of files are checked: each is what its file must hold, or is refused.
 ghost use Rattle.std.specs.Prelude.{◌≤◌, length};
 ghost use Rattle.std.specs.Result.{result_map_both};
-ghost use Rattle.wb_cli.specs.Checks.{AnImage, AScript, ChecksTo};
+ghost use Rattle.wb_cli.specs.Checks.{AnImage, AScript, SomeMoves, ChecksTo};
 
 use crate::files::Kind;
 use crate::refusals::{Refusal, Stop};
 use std::alloc::Global;
 use wb_rom::{Image, ImageFault};
 use wb_script::{Script, ScriptFault, read_script};
+use wb_trace::{Moves, MovesFault, read_moves};
 
 /// The image in the file at this place.
 pub fn checked_image(alloc: Global, place: u8, bytes: &[u8]) -> Result<Image, Stop>
@@ -29,5 +30,16 @@ pub fn checked_script(alloc: Global, place: u8, text: &[u8]) -> Result<Script, S
         Ok(script) => Ok(script),
         Err(ScriptFault::BadLine(line)) => Err(Stop::Refused(Refusal::ScriptLine(line))),
         Err(ScriptFault::OutOfMemory) => Err(Stop::OutOfMemory),
+    }
+}
+
+/// The moves in the file at this place.
+pub fn checked_moves(alloc: Global, place: u8, text: &[u8]) -> Result<Moves, Stop>
+    ensures { ChecksTo Kind.Moves place text.now (result_map_both SomeMoves (λ stop. stop) result) }
+{
+    match read_moves(alloc, text) {
+        Ok(moves) => Ok(moves),
+        Err(MovesFault::BadLine(line)) => Err(Stop::Refused(Refusal::MovesLine(line))),
+        Err(MovesFault::OutOfMemory) => Err(Stop::OutOfMemory),
     }
 }

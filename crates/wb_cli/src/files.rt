@@ -13,6 +13,7 @@ use wb_base::{ReadFault, Shelf, read_whole};
 pub enum Kind {
     Image,
     Script,
+    Moves,
 }
 
 impl Kind {
@@ -21,7 +22,7 @@ impl Kind {
         ensures { result ≡ limit_of self }
     {
         match self {
-            Kind::Image | Kind::Script => 1_048_576,
+            Kind::Image | Kind::Script | Kind::Moves => 1_048_576,
         }
     }
 }
@@ -52,6 +53,20 @@ fn read_file<S: Shelf>(
     }
 }
 
+/// Reads the one file of a plan.
+pub fn read_one<S: Shelf>(
+    alloc: Global,
+    shelf: &mut S,
+    file: &FileWord<'_>,
+) -> Result<Vec<u8>, Stop>
+    ensures kept { (n : List ℕ) → S.content shelf.new n ≡ S.content shelf.old n }
+    ensures later { S.faults shelf.old ≤ S.faults shelf.new }
+    ensures read { ReadsTo (S.content shelf.old) (S.faults shelf.old) (S.faults shelf.new) (named file.now ∷ [])
+        (result_map_both (λ bytes. bytes.items ∷ []) (λ stop. stop) result) }
+{
+    read_file(alloc, shelf, 0, file)
+}
+
 /// Reads the two files of a plan.
 pub fn read_two<S: Shelf>(
     alloc: Global,
@@ -67,4 +82,24 @@ pub fn read_two<S: Shelf>(
     let first_bytes = read_file(alloc, shelf, 0, first)?;
     let second_bytes = read_file(alloc, shelf, 1, second)?;
     Ok((first_bytes, second_bytes))
+}
+
+/// Reads the three files of a plan.
+pub fn read_three<S: Shelf>(
+    alloc: Global,
+    shelf: &mut S,
+    first: &FileWord<'_>,
+    second: &FileWord<'_>,
+    third: &FileWord<'_>,
+) -> Result<(Vec<u8>, Vec<u8>, Vec<u8>), Stop>
+    ensures kept { (n : List ℕ) → S.content shelf.new n ≡ S.content shelf.old n }
+    ensures later { S.faults shelf.old ≤ S.faults shelf.new }
+    ensures read { ReadsTo (S.content shelf.old) (S.faults shelf.old) (S.faults shelf.new)
+        (named first.now ∷ named second.now ∷ named third.now ∷ [])
+        (result_map_both (λ all. all.0.items ∷ all.1.items ∷ all.2.items ∷ []) (λ stop. stop) result) }
+{
+    let first_bytes = read_file(alloc, shelf, 0, first)?;
+    let second_bytes = read_file(alloc, shelf, 1, second)?;
+    let third_bytes = read_file(alloc, shelf, 2, third)?;
+    Ok((first_bytes, second_bytes, third_bytes))
 }

@@ -5,6 +5,7 @@ ghost use Rattle.wb_cli.specs.Once.{OneAnswer};
 use wb_rom::files_pair_with_images;
 use wb_script::each_text_has_one_answer;
 use wb_session::each_script_has_one_transcript;
+use wb_trace::each_text_has_one_answer as each_moves_file_has_one_answer;
 
 /// A valid call without a fault does its work, and ends with a status of its command, or is refused memory.
 pub fn valid_calls_get_through()
@@ -12,6 +13,7 @@ pub fn valid_calls_get_through()
     ensures expected { DoneWorkIsExpected }
 {
     each_text_has_one_answer();
+    each_moves_file_has_one_answer();
     files_pair_with_images();
 }
 
@@ -20,6 +22,7 @@ pub fn calls_have_one_answer()
     ensures { OneAnswer }
 {
     each_text_has_one_answer();
+    each_moves_file_has_one_answer();
     files_pair_with_images();
     each_script_has_one_transcript();
 }

@@ -11,8 +11,10 @@
 #![tactic(auto)]
 
 mod checks;
+mod depths;
 mod files;
 mod laws;
+mod numbers;
 mod outcomes;
 mod plans;
 mod refusals;
@@ -20,6 +22,7 @@ mod replies;
 mod statuses;
 #[cfg(test)]
 mod tests;
+mod texts;
 mod top;
 mod works;
 

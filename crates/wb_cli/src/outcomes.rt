@@ -1,9 +1,13 @@
 //! What the work of a call gives, and its report.
 ghost use Rattle.std.specs.Prelude.{◌≡◌, IfOk};
-ghost use Rattle.wb_cli.specs.Report.{IsReport, outcome_ending, transcript_ending};
+ghost use Rattle.wb_cli.specs.Report.{IsReply, transcript_ending};
 
+use crate::replies::Reply;
 use crate::statuses::Ending;
+use crate::texts::Text;
 use std::alloc::Global;
+use wb_dis::disassemble;
+use wb_rom::Image;
 use wb_session::{Ended, Transcript, transcript_text};
 use wb_word::OutOfMemory;
 
@@ -12,24 +16,34 @@ use wb_word::OutOfMemory;
 pub enum Outcome {
     /// The script was run.
     Ran(Transcript),
+    /// The image is to be listed.
+    Listed(Image),
+    /// The moves were made.
+    Traced(Text),
 }
 
 impl Outcome {
-    /// The text of the report.
-    pub fn report(&self, alloc: Global) -> Result<Vec<u8>, OutOfMemory>
-        ensures { IfOk result (λ text. IsReport self.now text.items) }
+    /// The report, and how a call ends that writes it whole.
+    pub fn into_reply(self, alloc: Global) -> Result<Reply, OutOfMemory>
+        ensures { IfOk result (λ reply. IsReply (Ok self) reply.ending reply.text.items) }
     {
         match self {
-            Outcome::Ran(transcript) => transcript_text(alloc, transcript),
-        }
-    }
-
-    /// How a call ends that came to this.
-    pub fn ending(&self) -> Ending
-        ensures { result ≡ outcome_ending self.now }
-    {
-        match self {
-            Outcome::Ran(transcript) => run_ending(transcript.ended),
+            Outcome::Ran(transcript) => {
+                let ending = run_ending(transcript.ended);
+                let text = transcript_text(alloc, &transcript)?;
+                Ok(Reply { ending, text })
+            }
+            Outcome::Listed(image) => {
+                let text = disassemble(alloc, &image)?;
+                Ok(Reply {
+                    ending: Ending::Fine,
+                    text,
+                })
+            }
+            Outcome::Traced(text) => Ok(Reply {
+                ending: Ending::Fine,
+                text: text.into_vec(),
+            }),
         }
     }
 }

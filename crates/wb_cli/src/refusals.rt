@@ -21,6 +21,8 @@ pub enum Refusal {
     ImageLength(u8, usize),
     /// The script has its first bad line here, counted from 1.
     ScriptLine(u32),
+    /// The moves have their first bad line here, counted from 1.
+    MovesLine(u32),
 }
 
 impl Refusal {
@@ -31,8 +33,10 @@ impl Refusal {
         match self {
             Refusal::BadWords => Ending::BadWords,
             Refusal::ReadFault(_) => Ending::ReadFault,
-            Refusal::TooLong(_) | Refusal::ImageLength(..) | Refusal::ScriptLine(_) =>
-                Ending::Refused,
+            Refusal::TooLong(_)
+            | Refusal::ImageLength(..)
+            | Refusal::ScriptLine(_)
+            | Refusal::MovesLine(_) => Ending::Refused,
         }
     }
 }
@@ -63,6 +67,7 @@ impl fmt::Display for Refusal {
                 write!(f, "IMAGE {number} LENGTH {found}")
             }
             Refusal::ScriptLine(line) => write!(f, "LINE {line} SCRIPT"),
+            Refusal::MovesLine(line) => write!(f, "LINE {line} MOVES"),
         }
     }
 }

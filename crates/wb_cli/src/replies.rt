@@ -20,13 +20,7 @@ pub fn reply_to(alloc: Global, came_to: Result<Outcome, Refusal>) -> Result<Repl
     ensures { IfOk result (λ reply. IsReply came_to reply.ending reply.text.items) }
 {
     match came_to {
-        Ok(outcome) => {
-            let text = outcome.report(alloc)?;
-            Ok(Reply {
-                ending: outcome.ending(),
-                text,
-            })
-        }
+        Ok(outcome) => outcome.into_reply(alloc),
         Err(refusal) => {
             let text = refusal_text(alloc, refusal)?;
             Ok(Reply {

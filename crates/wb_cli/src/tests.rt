@@ -26,6 +26,18 @@ const WIDE: &[[u8; 3]] = &[
     [0x00, 0x00, 0xA0],
 ];
 
+/// As ECHO, with an instruction that does nothing before the byte is given back.
+const SLOW: &[[u8; 3]] = &[
+    [0x07, 0x00, 0xC1],
+    [0x80, 0x00, 0x00],
+    [0x08, 0xC0, 0x97],
+    [0x91, 0x00, 0x00],
+    [0x00, 0x00, 0x00],
+    [0x16, 0x00, 0x00],
+    [0x18, 0xC0, 0x97],
+    [0x04, 0x00, 0xA0],
+];
+
 const GREETING: &[u8] = b"WAIT 10\nS\nW 5A\nWAIT 10\nR\n";
 
 const GREETED: &[u8] = b"WAIT 2\nS 84\nW 5A\nWAIT 3\nR 5A\nDONE\n";
@@ -51,6 +63,7 @@ fn repeated(alloc: Global, byte: u8, count: usize) -> Result<Vec<u8>, Fail> {
 fn shelf(alloc: Global, text: &[u8]) -> Result<MemShelf, Fail> {
     let mut shelf = MemShelf::new(alloc);
     shelf.add("echo", &image(alloc, ECHO)?)?;
+    shelf.add("slow", &image(alloc, SLOW)?)?;
     shelf.add("wide", &image(alloc, WIDE)?)?;
     shelf.add("text", text)?;
     shelf.add("longer", &repeated(alloc, 0, 8193)?)?;
@@ -126,10 +139,65 @@ fn runs(rt: HostRuntime) -> Result<(), Fail> {
     Ok(())
 }
 
+#[test]
+fn traces(rt: HostRuntime) -> Result<(), Fail> {
+    let cases: [(&str, &[u8], u8, &[u8]); 6] = [
+        (
+            "2",
+            b"A\nA\nU\nP\nU\nU\n",
+            0,
+            b"A 000\nA 001\nU\nP A 001 0000 0400 0000 0000\nP B 000 0000 0000 0000 0000\nU\nNOTHING\nDONE\n",
+        ),
+        ("1", b"A\nA\nU\nU\n", 0, b"A 000\nA 001\nU\nNOTHING\nDONE\n"),
+        (
+            "0004",
+            b"A\nA\nR\nB\nB\nS\nW 5A\nU\nS",
+            0,
+            b"A 000\nA 001\nBUSY B\nB 000\nB 001\nS 84 84\nW 5A\nU\nS 84 84\nDONE\n",
+        ),
+        ("256", b"A\nX\n", 3, b"LINE 2 MOVES\n"),
+        ("257", b"A\n", 2, b"BAD WORDS\n"),
+        ("00000000000000000001", b"", 0, b"DONE\n"),
+    ];
+    for (depth, moves, status, report) in cases {
+        check(
+            &rt,
+            rt.alloc(),
+            &["trace", "echo", "slow", "text", depth],
+            moves,
+            status,
+            report,
+        )?;
+    }
+    Ok(())
+}
+
+/// A listing has a line for each of 2048 program words and 1024 data words.
+#[test]
+fn listing(rt: HostRuntime) -> Result<(), Fail> {
+    let alloc = rt.alloc();
+    let mut sink = MemSink::with_room(alloc, 200_000)?;
+    let answer = command(
+        alloc,
+        &words(alloc, &["dis", "echo"])?,
+        &mut shelf(alloc, b"")?,
+        &mut sink,
+    );
+    assert_eq!(rt; answer.number(), 0);
+    let text = sink.taken();
+    let lines = text.iter().filter(|byte| **byte == b'\n').count();
+    assert_eq!(rt; lines, 3072);
+    let front =
+        b"ld sr,0x0400  ; 000 C10007\nop mov non,dr  ; 001 000080\njrqm 0x002  ; 002 97C008\n";
+    assert!(rt; text.starts_with(front));
+    assert!(rt; text.ends_with(b".dw 0x0000  ; 3FF\n"));
+    Ok(())
+}
+
 /// Lines that have no plan.
 #[test]
 fn bad_words(rt: HostRuntime) -> Result<(), Fail> {
-    let cases: [&[&str]; 13] = [
+    let cases: [&[&str]; 20] = [
         &[],
         &["run", "a"],
         &["compare", "a", "b", "17", "4"],
@@ -143,6 +211,13 @@ fn bad_words(rt: HostRuntime) -> Result<(), Fail> {
         &["RUN", "echo", "text"],
         &["", "echo", "text"],
         &["--help"],
+        &["dis"],
+        &["dis", ""],
+        &["dis", "echo", "echo"],
+        &["trace", "echo", "slow", "text"],
+        &["trace", "echo", "slow", "text", "0"],
+        &["trace", "echo", "slow", "text", "+1"],
+        &["trace", "echo", "slow", "text", "000000000000000000001"],
     ];
     for line in cases {
         check(&rt, rt.alloc(), line, GREETING, 2, b"BAD WORDS\n")?;
@@ -152,13 +227,29 @@ fn bad_words(rt: HostRuntime) -> Result<(), Fail> {
 
 #[test]
 fn bad_files(rt: HostRuntime) -> Result<(), Fail> {
-    let cases: [(&[&str], u8, &[u8]); 6] = [
+    let cases: [(&[&str], u8, &[u8]); 10] = [
         (&["run", "shorter", "text"], 3, b"IMAGE 1 LENGTH 8191\n"),
         (&["run", "longer", "text"], 3, b"IMAGE 1 LENGTH 8193\n"),
         (&["run", "empty", "text"], 3, b"IMAGE 1 LENGTH 0\n"),
         (&["run", "echo", "missing"], 6, b"READ FAULT 2\n"),
         (&["run", "missing", "missing"], 6, b"READ FAULT 1\n"),
         (&["run", "empty", "missing"], 6, b"READ FAULT 2\n"),
+        (&["dis", "longer"], 3, b"IMAGE 1 LENGTH 8193\n"),
+        (
+            &["trace", "echo", "shorter", "text", "1"],
+            3,
+            b"IMAGE 2 LENGTH 8191\n",
+        ),
+        (
+            &["trace", "echo", "echo", "text", "1"],
+            3,
+            b"LINE 1 MOVES\n",
+        ),
+        (
+            &["trace", "shorter", "echo", "missing", "1"],
+            6,
+            b"READ FAULT 3\n",
+        ),
     ];
     for (line, status, report) in cases {
         check(&rt, rt.alloc(), line, GREETING, status, report)?;

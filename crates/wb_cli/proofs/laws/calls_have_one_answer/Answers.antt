@@ -8,6 +8,7 @@ returns c = answer_once (record {
     one_script = c.each_text_has_one_answer.ensures.one_script;
     one_line = c.each_text_has_one_answer.ensures.one_line;
     script_never_both = c.each_text_has_one_answer.ensures.never_both;
+    moves = c.each_text_has_one_answer-2.ensures;
   };
   one_transcript = c.each_script_has_one_transcript.ensures.only;
 })

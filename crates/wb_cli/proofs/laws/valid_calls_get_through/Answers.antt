@@ -9,5 +9,6 @@ returns c =
       one_script = c.each_text_has_one_answer.ensures.one_script;
       one_line = c.each_text_has_one_answer.ensures.one_line;
       script_never_both = c.each_text_has_one_answer.ensures.never_both;
+      moves = c.each_text_has_one_answer-2.ensures;
     } in
     record { done = valid_is_done laws; expected = done_is_expected }
