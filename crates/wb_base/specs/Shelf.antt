@@ -28,9 +28,9 @@ pub record Gives (content : Content) (at : ℕ) (old new : List ℕ) (m : ℕ) :
   pub present : content ≢ Some None
   pub told : (xs : List ℕ) → content ≡ Some (Some xs) → GivesBytes xs at new m
 
--- the answer of a read at a place: the bytes there, or `Failed` with its cause
+-- the answer of a read at a place: the bytes there without a counted fault, or `Failed` with its cause
 abbrev pub IsRead : Content → ℕ → List ℕ → List ℕ → ℕ → ℕ → Result ℕ Failed → Type 0
-IsRead content at old new before now (Ok m) = Gives content at old new m
+IsRead content at old new before now (Ok m) = Gives content at old new m × (now ≡ before)
 IsRead content at old new before now (Err _) = HasCause content before now
 
 -- the whole content, where it is told, and never more than the limit
@@ -44,9 +44,9 @@ pub record IsLonger (limit : ℕ) (content : Content) : Type 0 where
   pub present : content ≢ Some None
   pub told : (xs : List ℕ) → content ≡ Some (Some xs) → limit < length xs
 
--- the answer of reading a content whole: its bytes, or the fault with its cause
+-- the answer of reading a content whole: its bytes, or the fault with its cause; only `Failed` has a counted one
 abbrev pub IsReading : ℕ → Content → ℕ → ℕ → Result (Vec ℕ Global) ReadFault → Type 0
-IsReading limit content before now (Ok bytes) = IsWhole limit content bytes.items
+IsReading limit content before now (Ok bytes) = IsWhole limit content bytes.items × (now ≡ before)
 IsReading limit content before now (Err fault.Failed) = HasCause content before now
-IsReading limit content before now (Err fault.TooLong) = IsLonger limit content
-IsReading limit content before now (Err fault.OutOfMemory) = Unit {0}
+IsReading limit content before now (Err fault.TooLong) = IsLonger limit content × (now ≡ before)
+IsReading limit content before now (Err fault.OutOfMemory) = now ≡ before

@@ -1,5 +1,5 @@
 -- What a sink takes: the bytes taken so far are `Some` of them, or `None` where the sink does not tell them.
-use Rattle.std.specs.Prelude.{ℕ, ◌<◌, ◌≤◌, List, length, take, Option, Result, Ok, Err}
+use Rattle.std.specs.Prelude.{◌≡◌, ℕ, ◌<◌, ◌≤◌, List, length, take, Option, Result, Ok, Err}
 pub use Rattle.std.specs.Io.KnownBytes.{Appends, Keeps}
 use Rattle.wb_base.specs.Faults.{Rose}
 use Rattle.wb_base.specs.declared.faults.Failed.{Failed}
@@ -15,17 +15,17 @@ pub record Refuses (old new : Option (List ℕ)) (before now : ℕ) : Type 0 whe
   pub rose : Rose before now
   pub kept : Keeps old new
 
--- the answer of a put
+-- the answer of a put: what it took without a counted fault, or a refusal
 abbrev pub IsPut : Option (List ℕ) → Option (List ℕ) → ℕ → ℕ → List ℕ → Result ℕ Failed → Type 0
-IsPut old new before now piece (Ok m) = Takes old new piece m
+IsPut old new before now piece (Ok m) = Takes old new piece m × (now ≡ before)
 IsPut old new before now piece (Err _) = Refuses old new before now
 
--- a part of the text from its front was appended before a counted fault
+-- a part of the text from its front, and not all of it, was appended before a counted fault
 pub record PutsPart (old new : Option (List ℕ)) (before now : ℕ) (text : List ℕ) : Type 0 where
   pub rose : Rose before now
-  pub front : (k : ℕ) × Appends old new (take k text)
+  pub front : (k : ℕ) × (k < length text) × Appends old new (take k text)
 
--- the answer of putting a text whole: all of it was appended, or a part from its front
+-- the answer of putting a text whole: all of it was appended without a counted fault, or a part from its front
 abbrev pub IsPutting : Option (List ℕ) → Option (List ℕ) → ℕ → ℕ → List ℕ → Result (Unit {0}) Failed → Type 0
-IsPutting old new before now text (Ok _) = Appends old new text
+IsPutting old new before now text (Ok _) = Appends old new text × (now ≡ before)
 IsPutting old new before now text (Err _) = PutsPart old new before now text

@@ -1,5 +1,6 @@
 //! A file that is read front to back.
 ghost use Rattle.std.specs.Prelude.{◌≡◌, ◌+◌, ◌-◌, ◌^◌, ◌<◌, ◌≤◌, ◌↔◌, length, take, drop, min, IsTrue, IfOk, IfSome, IfNone};
+ghost use Rattle.std.specs.Io.KnownBytes.{Consumes};
 
 use crate::Failed;
 use std::fs;
@@ -72,12 +73,13 @@ impl<F: Drop> Opened<F> {
 }
 
 impl<F: Read + Drop> Opened<F> {
-    // Reads the next bytes into the front of the buffer.
+    // Reads the next bytes of the file into the front of the buffer.
     pub(crate) fn read_next(&mut self, buf: &mut [u8]) -> Result<usize, Failed>
         ensures count { IfOk result (λ m. m ≤ length buf.old) }
         ensures rest { IfOk result (λ m. drop m buf.new ≡ drop m buf.old) }
         ensures place { IfOk result (λ m. self.new.place ≡ min (self.old.place + m) (2 ^ 64 - 1)) }
         ensures name { self.new.name ≡ self.old.name }
+        ensures bytes { IfOk result (λ m. Consumes (F.remaining self.old.file) (F.remaining self.new.file) (take m buf.new)) }
     {
         let mut piece = [0u8; PIECE_LENGTH];
         let room = buf.len().min(PIECE_LENGTH);

@@ -23,13 +23,19 @@ impl<W: Write + Drop> StdSink<W> {
 }
 
 impl<W: Write + Drop> Sink for StdSink<W> {
-    ghost use Rattle.std.specs.Prelude.{None};
+    ghost use Rattle.std.specs.Prelude.{◌≤◌, None, IfOk, take};
+    ghost use Rattle.std.specs.Io.KnownBytes.{Appends};
+    ghost use Rattle.wb_base.specs.Sink.{IsPut};
 
     ghost taken = { λ _. None };
 
     ghost faults = { λ s. s.faults };
 
-    fn put(&mut self, piece: &[u8]) -> Result<usize, Failed> {
+    fn put(&mut self, piece: &[u8]) -> Result<usize, Failed>
+        ensures passed_on { IfOk result (λ m. Appends (W.contents self.old.out) (W.contents self.new.out) (take m piece.now)) }
+        ensures later { self.old.faults ≤ self.new.faults }
+        ensures put { IsPut None None self.old.faults self.new.faults piece.now result }
+    {
         match write_flushed(&mut self.out, piece) {
             Ok(count) => Ok(count),
             Err(Failed) => {
@@ -40,12 +46,14 @@ impl<W: Write + Drop> Sink for StdSink<W> {
     }
 }
 
-ghost use Rattle.std.specs.Prelude.{◌≤◌, ◌<◌, length, IfOk};
+ghost use Rattle.std.specs.Prelude.{◌≤◌, ◌<◌, length, take, IfOk};
+ghost use Rattle.std.specs.Io.KnownBytes.{Appends};
 
 // Writes a part of the piece from its front and flushes it, so that the device has taken it.
 fn write_flushed<W: Write>(out: &mut W, piece: &[u8]) -> Result<usize, Failed>
     ensures bound { IfOk result (λ count. count ≤ length piece.now) }
     ensures some { IfOk result (λ count. 0 < length piece.now → 0 < count) }
+    ensures bytes { IfOk result (λ count. Appends (W.contents out.old) (W.contents out.new) (take count piece.now)) }
 {
     let count = out.write(piece)?;
     out.flush()?;

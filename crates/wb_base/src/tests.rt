@@ -7,8 +7,13 @@ use std::io::Write;
 use std::os::fd::AsRawFd;
 use std::test::Fail;
 
+/// So many bytes, no two of which are alike within 251 places.
 fn some_bytes(rt: &HostRuntime, length: usize) -> Result<Vec<u8>, Fail> {
-    Ok(vec![in rt.alloc(); 7u8; length]?)
+    let mut bytes = Vec::new(rt.alloc());
+    for at in 0..length {
+        bytes.push((at % 251) as u8)?;
+    }
+    Ok(bytes)
 }
 
 #[test]
@@ -116,6 +121,29 @@ fn real_files(rt: HostRuntime) -> Result<(), Fail> {
     let name = format!(in rt.alloc(); "/proc/self/fd/{}", reader.as_raw_fd())?;
     let bytes = read_whole(rt.alloc(), &mut shelf, name.as_str(), 10_000)?;
     assert!(rt; bytes.as_slice() == content.as_slice(), "a pipe");
+    Ok(())
+}
+
+/// An executable file of this system begins with the byte 7F and the letters ELF.
+#[test]
+fn file_out_of_order(rt: HostRuntime) -> Result<(), Fail> {
+    let mut shelf = FileShelf::new(&rt);
+    let cases = [
+        (1, *b"EL"),
+        (0, *b"\x7FE"),
+        (2, *b"LF"),
+        (2, *b"LF"),
+        (1, *b"EL"),
+    ];
+    for (at, bytes) in cases {
+        let mut buf = [0u8; 2];
+        assert_eq!(rt;
+            shelf.read_at("/proc/self/exe", at, &mut buf),
+            Ok(2),
+            "{at}"
+        );
+        assert_eq!(rt; buf.as_slice(), bytes.as_slice(), "{at}");
+    }
     Ok(())
 }
 

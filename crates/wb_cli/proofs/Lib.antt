@@ -1,1 +1,5 @@
-mod RunLemmas
+mod Digits
+mod Holding
+mod Once
+mod Valid
+pub mod Checked

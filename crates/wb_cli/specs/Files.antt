@@ -1,48 +1,70 @@
--- The files of a command: read whole, and their contents checked.
-use Rattle.std.specs.Prelude.{◌≡◌, ◌≢◌, ℕ, List, length}
+-- The files of a plan are read in their order, each whole, until one can't be.
+use Rattle.std.specs.Prelude.{◌≡◌, ℕ, zero, suc, List, [], ◌∷◌}
 use Rattle.std.specs.Global.{Vec}
 use Rattle.std.specs.declared.result.Result.{Result}
 use Rattle.std.specs.declared.result.Result.TheVariants.{Ok, Err}
 use Rattle.wb_base.specs.Shelf.{Content, HasCause, IsWhole, IsLonger}
-use Rattle.wb_rom.specs.declared.images.Image.{Image}
-use Rattle.wb_rom.specs.ImageBytes.{IsImageOf}
-use Rattle.wb_script.specs.declared.items.Item.{Item}
-use Rattle.wb_script.specs.Script.{IsScript, IsFirstBad}
-use Rattle.wb_cli.specs.declared.stops.Place.{Place}
-use Rattle.wb_cli.specs.declared.stops.Stop.{Stop}
-use Rattle.wb_cli.specs.declared.stops.Stop.TheVariants as stop
+use Rattle.wb_cli.specs.declared.files.Kind.{Kind}
+use Rattle.wb_cli.specs.declared.files.Kind.TheVariants as kind
+use Rattle.wb_cli.specs.declared.refusals.Refusal.TheVariants as refusal
+use Rattle.wb_cli.specs.declared.refusals.Stop.{Stop}
+use Rattle.wb_cli.specs.declared.refusals.Stop.TheVariants.{Refused, OutOfMemory}
+use Rattle.wb_cli.specs.Plan.{NamedFile}
 
--- the most bytes that a file may have
-abbrev pub longest : ℕ
-longest = 1048576
+-- the most bytes that a file may have, by what it must hold
+abbrev pub limit_of : Kind → ℕ
+limit_of kind.Image = 1048576
+limit_of kind.Script = 1048576
+limit_of kind.Moves = 1048576
 
--- why the file at a place wasn't read
-abbrev pub IsReadStop : Content → ℕ → ℕ → Place → Stop → Type 0
-IsReadStop content before now place (stop.ReadFault at) = (at ≡ place) × HasCause content before now
-IsReadStop content before now place (stop.TooLong at) = (at ≡ place) × IsLonger longest content
-IsReadStop content before now place stop.NoMemory = Unit {0}
-IsReadStop content before now place _ = ⊥
+-- what a shelf tells of its names
+abbrev pub Contents : Type 0
+Contents = List ℕ → Content
 
--- the file at a place: its whole content, or why it wasn't read
-abbrev pub IsFile : Content → ℕ → ℕ → Place → Result (Vec ℕ) Stop → Type 0
-IsFile content before now place (Ok bytes) = IsWhole longest content bytes.items
-IsFile content before now place (Err refusal) = IsReadStop content before now place refusal
+-- the file was read whole
+abbrev pub Reads : Contents → NamedFile → List ℕ → Type 0
+Reads told file bytes = IsWhole (limit_of file.kind) (told file.name) bytes
 
--- the file has this length, which no image has
-pub record HasWrongLength (bytes : List ℕ) (found : ℕ) : Type 0 where
-  pub found_is : found ≡ length bytes
-  pub wrong : length bytes ≢ 8192
+-- so was each of the files
+abbrev pub ReadsAll : Contents → List NamedFile → List (List ℕ) → Type 0
+ReadsAll told [] [] = Unit {0}
+ReadsAll told (file ∷ files) (bytes ∷ contents) = Reads told file bytes × ReadsAll told files contents
+ReadsAll told _ _ = ⊥
 
--- the image in the file at a place, or why there is none
-abbrev pub IsImageCheck : List ℕ → Place → Result Image Stop → Type 0
-IsImageCheck bytes place (Ok image) = IsImageOf bytes image
-IsImageCheck bytes place (Err (stop.ImageLength at found)) = (at ≡ place) × HasWrongLength bytes found
-IsImageCheck bytes place (Err stop.NoMemory) = Unit {0}
-IsImageCheck bytes place (Err _) = ⊥
+-- the file at this place, counted from 0, is the first that wasn't read, which has this cause
+abbrev pub FirstUnread : Contents → (NamedFile → Type 0) → List NamedFile → ℕ → Type 0
+FirstUnread told Cause [] place = ⊥
+FirstUnread told Cause (file ∷ files) zero = Cause file
+FirstUnread told Cause (file ∷ files) (suc place) = ((bytes : List ℕ) × Reads told file bytes) × FirstUnread told Cause files place
 
--- the script in a text, or why there is none
-abbrev pub IsScriptCheck : List ℕ → Result (List Item) Stop → Type 0
-IsScriptCheck text (Ok items) = IsScript text items
-IsScriptCheck text (Err (stop.ScriptLine line)) = IsFirstBad text line
-IsScriptCheck text (Err stop.NoMemory) = Unit {0}
-IsScriptCheck text (Err _) = ⊥
+-- a file couldn't be read, while the shelf's count of faults went from one number to another
+abbrev pub CouldNot : Contents → ℕ → ℕ → NamedFile → Type 0
+CouldNot told before now file = HasCause (told file.name) before now
+
+-- a file is longer than it may be
+abbrev pub TooLong : Contents → NamedFile → Type 0
+TooLong told file = IsLonger (limit_of file.kind) (told file.name)
+
+-- why the file at a place wasn't read; only a failed read has a counted fault
+abbrev pub IsUnread : Contents → ℕ → ℕ → ℕ → NamedFile → Stop → Type 0
+IsUnread told before now place file (Refused (refusal.ReadFault at)) = (at ≡ place) × CouldNot told before now file
+IsUnread told before now place file (Refused (refusal.TooLong at)) = (at ≡ place) × TooLong told file × (now ≡ before)
+IsUnread told before now place file OutOfMemory = now ≡ before
+IsUnread told before now place file (Refused _) = ⊥
+
+-- what reading the file at a place comes to
+abbrev pub ReadsOneTo : Contents → ℕ → ℕ → ℕ → NamedFile → Result (Vec ℕ) Stop → Type 0
+ReadsOneTo told before now place file (Ok bytes) = Reads told file bytes.items × (now ≡ before)
+ReadsOneTo told before now place file (Err stop) = IsUnread told before now place file stop
+
+-- why the files weren't all read
+abbrev pub AreUnread : Contents → ℕ → ℕ → List NamedFile → Stop → Type 0
+AreUnread told before now files (Refused (refusal.ReadFault place)) = FirstUnread told (CouldNot told before now) files place
+AreUnread told before now files (Refused (refusal.TooLong place)) = FirstUnread told (TooLong told) files place × (now ≡ before)
+AreUnread told before now files OutOfMemory = now ≡ before
+AreUnread told before now files (Refused _) = ⊥
+
+-- what reading the files comes to
+abbrev pub ReadsTo : Contents → ℕ → ℕ → List NamedFile → Result (List (List ℕ)) Stop → Type 0
+ReadsTo told before now files (Ok contents) = ReadsAll told files contents × (now ≡ before)
+ReadsTo told before now files (Err stop) = AreUnread told before now files stop

@@ -1,4 +1,4 @@
--- the exit statuses
+-- The exit statuses.
 use Rattle.std.specs.Prelude.{ℕ}
 use Rattle.wb_cli.specs.declared.statuses.Ending.{Ending}
 use Rattle.wb_cli.specs.declared.statuses.Ending.TheVariants as ending

@@ -1,13 +1,28 @@
-//! What follows from the answers of a call.
-ghost use Rattle.wb_cli.specs.declared.statuses.Status.{Status};
-ghost use Rattle.wb_cli.specs.Answers.{Answers, Met, Put};
-ghost use Rattle.wb_cli.specs.Complete.{IsRun, IsValidRun};
+//! What follows from the answers of calls.
+ghost use Rattle.wb_cli.specs.Complete.{DoneWorkIsExpected, ValidCallsAreDone};
+ghost use Rattle.wb_cli.specs.Once.{OneAnswer};
 
+use wb_rom::files_pair_with_images;
 use wb_script::each_text_has_one_answer;
+use wb_session::each_script_has_one_transcript;
+use wb_trace::each_text_has_one_answer as each_moves_file_has_one_answer;
 
-/// A valid run without a fault ends with a transcript, or for want of memory.
-pub fn valid_runs_get_through()
-    ensures { (met : Met) (put : Put) (status : Status) → Answers met put status → IsValidRun met put → IsRun status }
+/// A valid call without a fault does its work, and ends with a status of its command, or is refused memory.
+pub fn valid_calls_get_through()
+    ensures done { ValidCallsAreDone }
+    ensures expected { DoneWorkIsExpected }
 {
     each_text_has_one_answer();
+    each_moves_file_has_one_answer();
+    files_pair_with_images();
+}
+
+/// The words and the contents of the files decide the status and the text, but for faults and want of memory.
+pub fn calls_have_one_answer()
+    ensures { OneAnswer }
+{
+    each_text_has_one_answer();
+    each_moves_file_has_one_answer();
+    files_pair_with_images();
+    each_script_has_one_transcript();
 }

@@ -1,24 +1,31 @@
 //! The command line of the workbench: `command` takes the words after the program's name, reads the files that
 //! they name from a shelf, does the work, and puts one whole report to a sink.
 //!
-//! Its clause `answers` is the relation `Answers` of `specs/Answers.antt`: the call came to a transcript, or stopped at
-//! the first step that failed, with its cause (`specs/Outcome.antt`), and that outcome decides the report and the exit
-//! status. A new command is one more case of the plan and of the outcome.
-//! `plans.rt` reads the words, `files.rt` reads and checks the files, `outcomes.rt` does the work, `stops.rt` has the
-//! refusals and their lines, `replies.rt` the reports, `statuses.rt` the exit statuses, `top.rt` the call itself.
+//! Its clause `answers` is the relation `Answers` of `specs/Answers.antt`: the call came to an outcome, or was refused at
+//! the first step that failed, with its cause (`specs/Outcome.antt`), and that decides the report (`specs/Report.antt`)
+//! and the exit status. `specs/Files.antt` and `specs/Checks.antt` say how files are read and checked, for all commands
+//! alike. A new command is one more case of `Plan`, of `Task` with `Makes`, and of `Outcome` with its report.
+//! `plans.rt` reads the words, `files.rt` reads the files, `checks.rt` checks their contents, `works.rt` does the work,
+//! `outcomes.rt` and `refusals.rt` have what it comes to and the reports, `statuses.rt` the exit statuses, `top.rt` the
+//! call itself, `laws.rt` what follows for every call.
 #![tactic(auto)]
 
+mod checks;
+mod depths;
 mod files;
 mod laws;
+mod numbers;
 mod outcomes;
 mod plans;
+mod refusals;
 mod replies;
 mod statuses;
-mod stops;
 #[cfg(test)]
 mod tests;
+mod texts;
 mod top;
+mod works;
 
-pub use laws::valid_runs_get_through;
+pub use laws::{calls_have_one_answer, valid_calls_get_through};
 pub use statuses::Status;
 pub use top::command;

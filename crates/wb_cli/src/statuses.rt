@@ -3,7 +3,7 @@ ghost use Rattle.std.specs.Prelude.{◌≡◌};
 ghost use Rattle.wb_cli.specs.Status.{ending_status, status_number};
 
 /// How a call of the program ended.
-#[derive(Clone, Copy, PartialEq, Eq, Debug)]
+#[derive(Drop, PartialEq, Eq, Debug)]
 pub enum Status {
     /// The work is done.
     Fine,
@@ -39,7 +39,7 @@ impl Status {
 }
 
 /// How a call ends whose report was written whole.
-#[derive(Clone, Copy)]
+#[derive(Drop)]
 pub enum Ending {
     Fine,
     Shown,

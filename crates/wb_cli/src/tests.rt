@@ -1,18 +1,40 @@
 //! Whole calls: the words, the files and the bytes that are written.
-use crate::{Status, command};
+use crate::command;
 use std::alloc::Global;
 use std::process::Abort;
 use std::test::Fail;
 use wb_base::{MemShelf, MemSink};
 
-// From address 0: waits for a byte, and gives it back.
-const ECHO: [[u8; 3]; 7] = [
+/// From address 0: waits for a byte, and gives it back.
+const ECHO: &[[u8; 3]] = &[
     [0x07, 0x00, 0xC1],
     [0x80, 0x00, 0x00],
     [0x08, 0xC0, 0x97],
     [0x91, 0x00, 0x00],
     [0x16, 0x00, 0x00],
     [0x14, 0xC0, 0x97],
+    [0x04, 0x00, 0xA0],
+];
+
+/// The same with transfers of two bytes each.
+const WIDE: &[[u8; 3]] = &[
+    [0x80, 0x00, 0x00],
+    [0x04, 0xC0, 0x97],
+    [0x91, 0x00, 0x00],
+    [0x16, 0x00, 0x00],
+    [0x10, 0xC0, 0x97],
+    [0x00, 0x00, 0xA0],
+];
+
+/// As ECHO, with an instruction that does nothing before the byte is given back.
+const SLOW: &[[u8; 3]] = &[
+    [0x07, 0x00, 0xC1],
+    [0x80, 0x00, 0x00],
+    [0x08, 0xC0, 0x97],
+    [0x91, 0x00, 0x00],
+    [0x00, 0x00, 0x00],
+    [0x16, 0x00, 0x00],
+    [0x18, 0xC0, 0x97],
     [0x04, 0x00, 0xA0],
 ];
 
@@ -37,102 +59,197 @@ fn repeated(alloc: Global, byte: u8, count: usize) -> Result<Vec<u8>, Fail> {
     Ok(vec![in alloc; byte; count]?)
 }
 
-/// A shelf with ECHO as `echo`, a script as `script`, and images of wrong lengths.
-fn shelf(alloc: Global, script: &[u8]) -> Result<MemShelf, Fail> {
+/// A shelf with images, a text under `text`, and files of wrong lengths.
+fn shelf(alloc: Global, text: &[u8]) -> Result<MemShelf, Fail> {
     let mut shelf = MemShelf::new(alloc);
-    let echo = image(alloc, &ECHO)?;
-    shelf.add("echo", &echo)?;
-    shelf.add("script", script)?;
+    shelf.add("echo", &image(alloc, ECHO)?)?;
+    shelf.add("slow", &image(alloc, SLOW)?)?;
+    shelf.add("wide", &image(alloc, WIDE)?)?;
+    shelf.add("text", text)?;
     shelf.add("longer", &repeated(alloc, 0, 8193)?)?;
     shelf.add("shorter", &repeated(alloc, 0, 8191)?)?;
     shelf.add("empty", b"")?;
     Ok(shelf)
 }
 
-fn words(alloc: Global, line: &str) -> Result<Vec<String>, Fail> {
+fn words(alloc: Global, line: &[&str]) -> Result<Vec<String>, Fail> {
     let mut words = Vec::new(alloc);
-    for word in line.split_whitespace() {
+    for word in line {
         words.push(String::from_str(alloc, word)?)?;
     }
     Ok(words)
 }
 
-/// Makes one call on the files and an ample sink, and asks for its status and its whole report.
+/// Makes one call on the files and an ample sink, and asks for its exit status and its whole report.
 fn check(
     rt: &impl Abort,
     alloc: Global,
-    line: &str,
-    script: &[u8],
-    status: Status,
+    line: &[&str],
+    text: &[u8],
+    status: u8,
     report: &[u8],
 ) -> Result<(), Fail> {
     let words = words(alloc, line)?;
-    let mut shelf = shelf(alloc, script)?;
+    let mut shelf = shelf(alloc, text)?;
     let mut sink = MemSink::with_room(alloc, 4096)?;
-    assert_eq!(rt;
-        command(alloc, &words, &mut shelf, &mut sink),
-        status,
-        "{line}"
-    );
-    assert_eq!(rt; sink.taken(), report, "{line}");
+    let answer = command(alloc, &words, &mut shelf, &mut sink);
+    assert_eq!(rt; answer.number(), status, "{line:?}");
+    assert_eq!(rt; sink.taken(), report, "{line:?}");
     Ok(())
 }
 
 #[test]
 fn runs(rt: HostRuntime) -> Result<(), Fail> {
-    let cases: [(&[u8], Status, &[u8]); 9] = [
-        (GREETING, Status::Fine, GREETED),
-        (b"R\n", Status::Shown, b"EARLY 1\n"),
-        (b"", Status::Fine, b"DONE\n"),
-        (b"WAIT 1\n", Status::Shown, b"SILENT 1\n"),
+    let cases: [(&str, &[u8], u8, &[u8]); 9] = [
+        ("echo", GREETING, 0, GREETED),
+        ("echo", b"R\n", 1, b"EARLY 1\n"),
+        ("echo", b"", 0, b"DONE\n"),
+        ("echo", b"WAIT 1\n", 1, b"SILENT 1\n"),
         (
-            b"REPEAT 2\nWAIT 9\nW 41\nEND\n",
-            Status::Fine,
-            b"WAIT 2\nW 41\nWAIT 3\nW 41\nDONE\n",
+            "echo",
+            b"STEP 2\r\n S ; the status\xFF\r\nREPEAT 1\n\tW 41\nWAIT 9\nEND\nR",
+            0,
+            b"STEP 2\nS 84\nW 41\nWAIT 3\nR 41\nDONE\n",
         ),
         (
+            "wide",
+            b"WAIT 10\nS\nR\nS\nW 12\nWAIT 10\nS\nR\nR\n",
+            0,
+            b"WAIT 1\nS 80\nR 00\nS 90\nW 12\nWAIT 3\nS 80\nR 00\nR 12\nDONE\n",
+        ),
+        (
+            "echo",
             b"STEP 2\r\n S ; the status\xFF\r\n\tw 00",
-            Status::Refused,
+            3,
             b"LINE 3 SCRIPT\n",
         ),
-        (
-            b"STEP 2\r\n S ; the status\xFF\r\n\tW 0a",
-            Status::Fine,
-            b"STEP 2\nS 84\nW 0A\nDONE\n",
-        ),
-        (b"W 4\n", Status::Refused, b"LINE 1 SCRIPT\n"),
-        (b"S\nREPEAT 2\nS\n", Status::Refused, b"LINE 2 SCRIPT\n"),
+        ("echo", b"W 4\n", 3, b"LINE 1 SCRIPT\n"),
+        ("echo", b"S\nREPEAT 2\nS\n", 3, b"LINE 2 SCRIPT\n"),
     ];
-    for (script, status, report) in cases {
-        check(&rt, rt.alloc(), "run echo script", script, status, report)?;
+    for (image, script, status, report) in cases {
+        check(
+            &rt,
+            rt.alloc(),
+            &["run", image, "text"],
+            script,
+            status,
+            report,
+        )?;
     }
     Ok(())
 }
 
 #[test]
-fn refusals(rt: HostRuntime) -> Result<(), Fail> {
-    let cases: [(&str, Status, &[u8]); 13] = [
-        ("", Status::BadWords, b"BAD WORDS\n"),
-        ("run", Status::BadWords, b"BAD WORDS\n"),
-        ("run a", Status::BadWords, b"BAD WORDS\n"),
-        ("run a b c", Status::BadWords, b"BAD WORDS\n"),
-        ("RUN echo script", Status::BadWords, b"BAD WORDS\n"),
-        ("compare a b 17 4", Status::BadWords, b"BAD WORDS\n"),
-        ("--help", Status::BadWords, b"BAD WORDS\n"),
+fn traces(rt: HostRuntime) -> Result<(), Fail> {
+    let cases: [(&str, &[u8], u8, &[u8]); 6] = [
         (
-            "run shorter script",
-            Status::Refused,
-            b"IMAGE 1 LENGTH 8191\n",
+            "2",
+            b"A\nA\nU\nP\nU\nU\n",
+            0,
+            b"A 000\nA 001\nU\nP A 001 0000 0400 0000 0000\nP B 000 0000 0000 0000 0000\nU\nNOTHING\nDONE\n",
+        ),
+        ("1", b"A\nA\nU\nU\n", 0, b"A 000\nA 001\nU\nNOTHING\nDONE\n"),
+        (
+            "0004",
+            b"A\nA\nR\nB\nB\nS\nW 5A\nU\nS",
+            0,
+            b"A 000\nA 001\nBUSY B\nB 000\nB 001\nS 84 84\nW 5A\nU\nS 84 84\nDONE\n",
+        ),
+        ("256", b"A\nX\n", 3, b"LINE 2 MOVES\n"),
+        ("257", b"A\n", 2, b"BAD WORDS\n"),
+        ("00000000000000000001", b"", 0, b"DONE\n"),
+    ];
+    for (depth, moves, status, report) in cases {
+        check(
+            &rt,
+            rt.alloc(),
+            &["trace", "echo", "slow", "text", depth],
+            moves,
+            status,
+            report,
+        )?;
+    }
+    Ok(())
+}
+
+/// A listing has a line for each of 2048 program words and 1024 data words.
+#[test]
+fn listing(rt: HostRuntime) -> Result<(), Fail> {
+    let alloc = rt.alloc();
+    let mut sink = MemSink::with_room(alloc, 200_000)?;
+    let answer = command(
+        alloc,
+        &words(alloc, &["dis", "echo"])?,
+        &mut shelf(alloc, b"")?,
+        &mut sink,
+    );
+    assert_eq!(rt; answer.number(), 0);
+    let text = sink.taken();
+    let lines = text.iter().filter(|byte| **byte == b'\n').count();
+    assert_eq!(rt; lines, 3072);
+    let front =
+        b"ld sr,0x0400  ; 000 C10007\nop mov non,dr  ; 001 000080\njrqm 0x002  ; 002 97C008\n";
+    assert!(rt; text.starts_with(front));
+    assert!(rt; text.ends_with(b".dw 0x0000  ; 3FF\n"));
+    Ok(())
+}
+
+/// Lines that have no plan.
+#[test]
+fn bad_words(rt: HostRuntime) -> Result<(), Fail> {
+    let cases: [&[&str]; 20] = [
+        &[],
+        &["run", "a"],
+        &["compare", "a", "b", "17", "4"],
+        &["compare", "a", "b", "2", "0"],
+        &["compare", "a", "b", "2", "4", "shape=R"],
+        &["compare", "a", "b", "2", "4", "points=9", "points=9"],
+        &["compare", "a", "b", "2", "4", "speed=1"],
+        &["run", "echo", ""],
+        &["run", "", "text"],
+        &["run", "echo", "text", "text"],
+        &["RUN", "echo", "text"],
+        &["", "echo", "text"],
+        &["--help"],
+        &["dis"],
+        &["dis", ""],
+        &["dis", "echo", "echo"],
+        &["trace", "echo", "slow", "text"],
+        &["trace", "echo", "slow", "text", "0"],
+        &["trace", "echo", "slow", "text", "+1"],
+        &["trace", "echo", "slow", "text", "000000000000000000001"],
+    ];
+    for line in cases {
+        check(&rt, rt.alloc(), line, GREETING, 2, b"BAD WORDS\n")?;
+    }
+    Ok(())
+}
+
+#[test]
+fn bad_files(rt: HostRuntime) -> Result<(), Fail> {
+    let cases: [(&[&str], u8, &[u8]); 10] = [
+        (&["run", "shorter", "text"], 3, b"IMAGE 1 LENGTH 8191\n"),
+        (&["run", "longer", "text"], 3, b"IMAGE 1 LENGTH 8193\n"),
+        (&["run", "empty", "text"], 3, b"IMAGE 1 LENGTH 0\n"),
+        (&["run", "echo", "missing"], 6, b"READ FAULT 2\n"),
+        (&["run", "missing", "missing"], 6, b"READ FAULT 1\n"),
+        (&["run", "empty", "missing"], 6, b"READ FAULT 2\n"),
+        (&["dis", "longer"], 3, b"IMAGE 1 LENGTH 8193\n"),
+        (
+            &["trace", "echo", "shorter", "text", "1"],
+            3,
+            b"IMAGE 2 LENGTH 8191\n",
         ),
         (
-            "run longer script",
-            Status::Refused,
-            b"IMAGE 1 LENGTH 8193\n",
+            &["trace", "echo", "echo", "text", "1"],
+            3,
+            b"LINE 1 MOVES\n",
         ),
-        ("run empty script", Status::Refused, b"IMAGE 1 LENGTH 0\n"),
-        ("run echo missing", Status::ReadFault, b"READ FAULT 2\n"),
-        ("run missing missing", Status::ReadFault, b"READ FAULT 1\n"),
-        ("run empty missing", Status::ReadFault, b"READ FAULT 2\n"),
+        (
+            &["trace", "shorter", "echo", "missing", "1"],
+            6,
+            b"READ FAULT 3\n",
+        ),
     ];
     for (line, status, report) in cases {
         check(&rt, rt.alloc(), line, GREETING, status, report)?;
@@ -144,54 +261,41 @@ fn refusals(rt: HostRuntime) -> Result<(), Fail> {
 #[test]
 fn long_files(rt: HostRuntime) -> Result<(), Fail> {
     let alloc = rt.alloc();
-    let long = repeated(alloc, b'\n', 1_048_576)?;
-    check(
-        &rt,
-        alloc,
-        "run echo script",
-        &long,
-        Status::Fine,
-        b"DONE\n",
-    )?;
-    let longer = repeated(alloc, b'\n', 1_048_577)?;
-    check(
-        &rt,
-        alloc,
-        "run echo script",
-        &longer,
-        Status::Refused,
-        b"FILE 2 TOO LONG\n",
-    )?;
-    check(
-        &rt,
-        alloc,
-        "run script missing",
-        &longer,
-        Status::Refused,
-        b"FILE 1 TOO LONG\n",
-    )
+    let cases: [(&[&str], usize, u8, &[u8]); 4] = [
+        (&["run", "echo", "text"], 1_048_575, 0, b"DONE\n"),
+        (&["run", "echo", "text"], 1_048_576, 0, b"DONE\n"),
+        (&["run", "echo", "text"], 1_048_577, 3, b"FILE 2 TOO LONG\n"),
+        (
+            &["run", "text", "missing"],
+            1_048_577,
+            3,
+            b"FILE 1 TOO LONG\n",
+        ),
+    ];
+    for (line, length, status, report) in cases {
+        let long = repeated(alloc, b'\n', length)?;
+        check(&rt, alloc, line, &long, status, report)?;
+    }
+    Ok(())
 }
 
 /// Each read fails in turn, until a call has none that fails.
 #[test]
 fn failing_reads(rt: HostRuntime) -> Result<(), Fail> {
     let alloc = rt.alloc();
-    let words = words(alloc, "run echo script")?;
+    let words = words(alloc, &["run", "echo", "text"])?;
     for call in 1..20 {
         let mut shelf = shelf(alloc, GREETING)?;
         shelf.fail_call(call)?;
         let mut sink = MemSink::with_room(alloc, 64)?;
         // Two reads give the image and a third meets its end; one gives the script and one meets its end.
-        let (status, report): (Status, &[u8]) = match call {
-            1..=3 => (Status::ReadFault, b"READ FAULT 1\n"),
-            4..=5 => (Status::ReadFault, b"READ FAULT 2\n"),
-            _ => (Status::Fine, GREETED),
+        let (status, report): (u8, &[u8]) = match call {
+            1..=3 => (6, b"READ FAULT 1\n"),
+            4..=5 => (6, b"READ FAULT 2\n"),
+            _ => (0, GREETED),
         };
-        assert_eq!(rt;
-            command(alloc, &words, &mut shelf, &mut sink),
-            status,
-            "call {call}"
-        );
+        let answer = command(alloc, &words, &mut shelf, &mut sink);
+        assert_eq!(rt; answer.number(), status, "call {call}");
         assert_eq!(rt; sink.taken(), report, "call {call}");
     }
     Ok(())
@@ -201,41 +305,25 @@ fn failing_reads(rt: HostRuntime) -> Result<(), Fail> {
 #[test]
 fn failing_puts(rt: HostRuntime) -> Result<(), Fail> {
     let alloc = rt.alloc();
-    let run = words(alloc, "run echo script")?;
+    let run = words(alloc, &["run", "echo", "text"])?;
     for call in 1..36 {
         let mut shelf = shelf(alloc, GREETING)?;
         let mut sink = MemSink::with_room(alloc, 64)?;
         sink.at_most(1);
         sink.fail_call(call)?;
-        let status = if call == 35 {
-            Status::Fine
-        } else {
-            Status::WriteFault
-        };
-        assert_eq!(rt;
-            command(alloc, &run, &mut shelf, &mut sink),
-            status,
-            "put {call}"
-        );
+        let status = if call == 35 { 0 } else { 7 };
+        let answer = command(alloc, &run, &mut shelf, &mut sink);
+        assert_eq!(rt; answer.number(), status, "put {call}");
         assert_eq!(rt; sink.taken().len() as u64, call - 1, "put {call}");
         assert!(rt; GREETED.starts_with(sink.taken()), "put {call}");
     }
-    let cases = [
-        ("run echo script", 4, 2, b"WAIT".as_slice()),
-        ("run", 4, 1, b"".as_slice()),
-    ];
-    for (line, most, call, taken) in cases {
-        let words = words(alloc, line)?;
-        let mut shelf = shelf(alloc, GREETING)?;
-        let mut sink = MemSink::with_room(alloc, 64)?;
-        sink.at_most(most);
-        sink.fail_call(call)?;
-        assert_eq!(rt;
-            command(alloc, &words, &mut shelf, &mut sink),
-            Status::WriteFault,
-            "{line}"
-        );
-        assert_eq!(rt; sink.taken(), taken, "{line}");
-    }
+    let mut sink = MemSink::with_room(alloc, 0)?;
+    let answer = command(
+        alloc,
+        &words(alloc, &["run"])?,
+        &mut shelf(alloc, b"")?,
+        &mut sink,
+    );
+    assert_eq!(rt; answer.number(), 7, "no room for a refusal");
     Ok(())
 }

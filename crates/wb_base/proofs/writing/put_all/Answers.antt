@@ -6,6 +6,7 @@ use Rattle.wb_base.proofs.writing.put_all.Goals as goal
 
 pub putting-preserved : goal.putting-preserved
 putting-preserved g c =
-    let took = c.in_ok-at.ensures.put in
+    let took = c.in_ok-at.ensures.put.0 in
+    let calm = c.in_ok-at.ensures.put.1 in
     let bound = simp (take_rest, length-drop) at took.bound in
-    (omega arith, omega arith, appends_more _ _ _ _ _ _ c.putting.invariant.2 took.appended)
+    (omega arith, cc, appends_more _ _ _ _ _ _ c.putting.invariant.2 took.appended)

@@ -1,0 +1,61 @@
+-- What is written of what a call came to, and how the call ends that writes it whole.
+use Rattle.std.specs.Prelude.{◌≡◌, ℕ, ◌+◌, List, [], ◌∷◌, ◌++◌, codes}
+use Rattle.std.specs.Fmt.{decimal}
+use Rattle.std.specs.declared.result.Result.{Result}
+use Rattle.std.specs.declared.result.Result.TheVariants.{Ok, Err}
+use Rattle.wb_session.specs.declared.transcripts.Ended.{Ended}
+use Rattle.wb_session.specs.declared.transcripts.Ended.TheVariants.{Done, Early, Silent}
+use Rattle.wb_dis.specs.Listing.{listing}
+use Rattle.wb_session.specs.Texts.{transcript_bytes}
+use Rattle.wb_cli.specs.declared.outcomes.Outcome.{Outcome}
+use Rattle.wb_cli.specs.declared.outcomes.Outcome.TheVariants as outcome
+use Rattle.wb_cli.specs.declared.refusals.Refusal.{Refusal}
+use Rattle.wb_cli.specs.declared.refusals.Refusal.TheVariants as refusal
+use Rattle.wb_cli.specs.declared.statuses.Ending.{Ending}
+use Rattle.wb_cli.specs.declared.statuses.Ending.TheVariants as ending
+
+-- a script that was done is fine; one that ended early or silent is shown
+abbrev pub transcript_ending : Ended → Ending
+transcript_ending Done = ending.Fine
+transcript_ending (Early _) = ending.Shown
+transcript_ending (Silent _) = ending.Shown
+
+-- how a call ends that came to an outcome
+abbrev pub outcome_ending : Outcome → Ending
+outcome_ending (outcome.Ran transcript) = transcript_ending transcript.ended
+outcome_ending (outcome.Listed image) = ending.Fine
+outcome_ending (outcome.Traced text) = ending.Fine
+
+-- the text is the report of an outcome
+abbrev pub IsReport : Outcome → List ℕ → Type 0
+IsReport (outcome.Ran transcript) text = text ≡ transcript_bytes transcript
+IsReport (outcome.Listed image) text = text ≡ listing image
+IsReport (outcome.Traced traced) text = text ≡ traced
+
+-- how a call ends that was refused
+abbrev pub refusal_ending : Refusal → Ending
+refusal_ending refusal.BadWords = ending.BadWords
+refusal_ending (refusal.ReadFault place) = ending.ReadFault
+refusal_ending (refusal.TooLong place) = ending.Refused
+refusal_ending (refusal.ImageLength place found) = ending.Refused
+refusal_ending (refusal.ScriptLine line) = ending.Refused
+refusal_ending (refusal.MovesLine line) = ending.Refused
+
+-- places of file words are printed from 1
+abbrev pub printed_place : ℕ → List ℕ
+printed_place place = decimal (place + 1)
+
+-- the line that says why, without its line feed
+abbrev pub refusal_line : Refusal → List ℕ
+refusal_line refusal.BadWords = codes "BAD WORDS"
+refusal_line (refusal.ReadFault place) = codes "READ FAULT " ++ printed_place place
+refusal_line (refusal.TooLong place) = codes "FILE " ++ printed_place place ++ codes " TOO LONG"
+refusal_line (refusal.ImageLength place found) =
+    codes "IMAGE " ++ printed_place place ++ codes " LENGTH " ++ decimal found
+refusal_line (refusal.ScriptLine line) = codes "LINE " ++ decimal line ++ codes " SCRIPT"
+refusal_line (refusal.MovesLine line) = codes "LINE " ++ decimal line ++ codes " MOVES"
+
+-- the ending and the report of what a call came to
+abbrev pub IsReply : Result Outcome Refusal → Ending → List ℕ → Type 0
+IsReply (Ok made) end text = (end ≡ outcome_ending made) × IsReport made text
+IsReply (Err refused) end text = (end ≡ refusal_ending refused) × (text ≡ refusal_line refused ++ 10 ∷ [])

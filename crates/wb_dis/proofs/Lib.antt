@@ -1,0 +1,3 @@
+pub mod NameLengths
+pub mod Growth
+pub mod Numbered

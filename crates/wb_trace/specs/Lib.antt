@@ -1,0 +1,5 @@
+pub mod Moves
+pub mod Standing
+pub mod Texts
+pub mod Trace
+pub mod Laws
