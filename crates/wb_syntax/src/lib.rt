@@ -1,0 +1,14 @@
+//! Reads the statements of a source from its tokens.
+#![tactic(auto)]
+
+mod exprs;
+mod faults;
+mod parser;
+mod spans;
+mod statements;
+
+pub use exprs::{Expr, Node};
+pub use faults::SyntaxFault;
+pub use parser::parse;
+pub use spans::Span;
+pub use statements::{Body, Exprs, Source, Statement};
