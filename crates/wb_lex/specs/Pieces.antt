@@ -1,5 +1,5 @@
 -- How a text is cut into pieces, before anything is made of them.
-use Rattle.std.specs.Prelude.{◌≡◌, ℕ, Bool, false, not, ◌&&◌, ◌||◌, ◌==◌, ⊤, IsTrue, List, [], ◌∷◌, ◌++◌, codes}
+use Rattle.std.specs.Prelude.{◌≡◌, ℕ, Bool, false, not, ◌&&◌, ◌||◌, ◌==◌, ⊤, IsTrue, List, [], ◌∷◌, ◌++◌}
 use Rattle.std.specs.List.{list_any, list_all}
 use Rattle.wb_lex.specs.Characters.{is_blank, is_word_character, begins_word, is_mark}
 
@@ -60,4 +60,4 @@ IsCut text (piece ∷ pieces) rest = (more : List ℕ) × (text ≡ bytes_of pie
 abbrev pub is_foreign : ℕ → List ℕ → Bool
 is_foreign byte rest =
     not (is_blank byte || begins_word byte || is_mark byte || byte == 59 || byte == 10
-         || (byte == 13 && begins (λ next. next == 10) rest))
+    || (byte == 13 && begins (λ next. next == 10) rest))

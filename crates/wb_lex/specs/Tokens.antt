@@ -11,7 +11,7 @@ use Rattle.wb_lex.specs.declared.tokens.TokenKind.{TokenKind}
 use Rattle.wb_lex.specs.declared.tokens.TokenKind.TheVariants as kind
 use Rattle.wb_lex.specs.declared.faults.LexFault.{LexFault}
 use Rattle.wb_lex.specs.declared.faults.LexFault.TheVariants as fault
-use Rattle.wb_lex.specs.Pieces.{Piece, Blank, Return, Comment, Word, Mark, Feed, bytes_of, begins, IsPiece, IsCut, is_foreign}
+use Rattle.wb_lex.specs.Pieces.{Piece, Word, Mark, Feed, bytes_of, begins, IsPiece, IsCut, is_foreign}
 
 -- the number that digits of a base write: one digit at least, and nothing else
 abbrev pub numeral : ℕ → List ℕ → Option ℕ

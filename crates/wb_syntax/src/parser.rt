@@ -1,6 +1,7 @@
 //! Reads one line after the other.
 ghost use Rattle.std.specs.Prelude.{◌≡◌, ◌≤◌, IfErr, IfOk, length};
 ghost use Rattle.wb_lex.specs.Tokens.{IsTokens};
+ghost use Rattle.wb_syntax.specs.Source.{IsSource, IsFaultOf};
 
 use crate::{Source, SyntaxFault};
 use std::alloc::Global;
@@ -10,6 +11,8 @@ use wb_lex::Tokens;
 pub fn parse(alloc: Global, text: &[u8], tokens: &Tokens) -> Result<Source, SyntaxFault>
     requires size { length text.now ≤ 1048576 }
     requires tokens { IsTokens text.now tokens.now }
+    ensures source { IfOk result (IsSource text.now tokens.now) }
+    ensures fault { IfErr result (IsFaultOf text.now tokens.now) }
 {
     Err(SyntaxFault::OutOfMemory)
 }
