@@ -7,8 +7,10 @@
 #![tactic(auto)]
 
 mod faults;
+mod front;
 mod scanner;
 mod tokens;
+mod words;
 
 pub use faults::LexFault;
 pub use scanner::lex;
