@@ -1,6 +1,6 @@
 -- What stands at the front of a rest of a text.
-use Rattle.std.proofs.Common.{◌≡◌, ℕ, ◌+◌, ◌<◌, ◌≤◌, suc, Bool, true, false, cond, not, eqb, Option, Some, None, List, [], ◌∷◌, ◌++◌, length, get_or, take, drop, sym, refl, ap, ◌∙◌, arith}
-use Rattle.std.specs.Prelude.{IsTrue, ◌&&◌}
+use Rattle.std.proofs.Common.{◌≡◌, ℕ, ◌+◌, ◌<◌, ◌≤◌, suc, Bool, true, false, cond, not, eqb, Some, None, List, [], ◌∷◌, length, get_or, take, drop, sym, refl, ap, ◌∙◌, arith}
+use Rattle.std.specs.Prelude.{◌&&◌}
 use Rattle.std.specs.List.{prefix_len, position_or_len, list_all, list_any}
 use Rattle.std.proofs.lemmas.List.{take-append-drop, length-take-le}
 use Rattle.std.proofs.lemmas.List.Sums.{prefix_len-le-length}
@@ -9,8 +9,8 @@ use Rattle.wb_lex.specs.declared.tokens.TokenKind.{TokenKind}
 use Rattle.wb_lex.specs.declared.tokens.TokenKind.TheVariants as kind
 use Rattle.wb_lex.specs.declared.front.Front.TheVariants.{Skipped, Token, LineEnd, Wide, Foreign}
 use Rattle.wb_lex.specs.Characters.{is_word_character, begins_word, is_blank, is_mark}
-use Rattle.wb_lex.specs.Pieces.{Piece, Blank, Return, Comment, Word, Mark, Feed, bytes_of, begins, ends_line, is_word, IsPiece}
-use Rattle.wb_lex.specs.Tokens.{word_kind, token_kind, is_wide_kind, is_wide}
+use Rattle.wb_lex.specs.Pieces.{Blank, Return, Comment, Word, Mark, begins, ends_line}
+use Rattle.wb_lex.specs.Tokens.{word_kind, is_wide_kind}
 use Rattle.wb_lex.specs.Scan.{narrow, BeginsWith, IsFront}
 
 -- ---- a run of bytes that pass a test
@@ -109,8 +109,7 @@ pub comment_there : (rest : List ℕ) (count : ℕ) → 0 < length rest → get_
 comment_there [] count some first e = absurd (omega arith)
 comment_there (x ∷ xs) count some first e =
     let one : 1 + count ≡ suc count = omega arith in
-    let in_rest : count ≤ length xs = rw e (prefix_len-le-length (λ byte. not (eqb byte 10)) xs) in
-    (
+    let in_rest : count ≤ length xs = rw e (prefix_len-le-length (λ byte. not (eqb byte 10)) xs) in (
       Comment (take count xs),
       record {
         split = rw one (ap (λ y. y ∷ xs) first ∙ ap (λ ys. 59 ∷ ys) (sym (take-append-drop count xs)));

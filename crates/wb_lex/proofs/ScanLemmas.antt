@@ -1,16 +1,15 @@
 -- How far a scan has come, and what a piece more makes of it.
-use Rattle.std.proofs.Common.{◌≡◌, ℕ, ◌+◌, ◌-◌, ◌<◌, ◌≤◌, Bool, true, false, not, ◌||◌, cond, eqb, Option, Some, None, List, [], ◌∷◌, ◌++◌, length, take, drop, sym, refl, ap, ◌∙◌, subst, arith, append_assoc}
-use Rattle.std.specs.Prelude.{IsTrue}
+use Rattle.std.proofs.Common.{◌≡◌, ℕ, ◌+◌, ◌≤◌, Bool, true, false, not, ◌||◌, cond, eqb, Some, List, [], ◌∷◌, ◌++◌, length, take, drop, sym, refl, ap, ◌∙◌, subst, arith, append_assoc}
 use Rattle.std.specs.Option.{option_map, option_to_list}
 use Rattle.std.specs.List.{list_all, list_any, count_by, flat_map}
-use Rattle.std.proofs.lemmas.List.{append-nil, length-append, take-append-drop, drop-drop, length-take-le, length-drop, drop_all}
+use Rattle.std.proofs.lemmas.List.{append-nil, length-append, take-append-drop, drop-drop, length-take-le, length-drop}
 use Rattle.std.proofs.lemmas.List.Sums.{sum_by-append}
-use Rattle.std.proofs.lemmas.Bool.{eqb-true, or_cases, and_parts}
+use Rattle.std.proofs.lemmas.Bool.{eqb-true, and_parts}
 use Rattle.std.proofs.Math.Seq.{take-append_seam, take-add}
 use Rattle.wb_lex.specs.declared.tokens.Token.{Token as TheToken}
 use Rattle.wb_lex.specs.declared.tokens.TokenKind.{TokenKind}
 use Rattle.wb_lex.specs.Characters.{is_blank, is_word_character, begins_word, is_mark}
-use Rattle.wb_lex.specs.Pieces.{Piece, Blank, Return, Comment, Word, Mark, Feed, bytes_of, is_word, IsPiece, IsCut}
+use Rattle.wb_lex.specs.Pieces.{Piece, Blank, Return, Comment, Word, Mark, Feed, bytes_of, IsPiece, IsCut}
 use Rattle.wb_lex.specs.declared.faults.LexFault.TheVariants as fault
 use Rattle.wb_lex.specs.Tokens.{IsFirstFault, token_kind, is_wide, AreNarrow, line_after, bytes_since_feed, token_of, tokens_from}
 use Rattle.wb_lex.specs.declared.tokens.TokenKind.TheVariants as kind
@@ -90,7 +89,7 @@ all_other p (x ∷ xs) fails all =
     let both = and_parts (p x) (list_all p xs) all in
     rw (other_than_feed p x fails both.0) (all_other p xs fails both.1)
 
-not_false : (b : Bool) → not b ≡ true → b ≡ false
+pub not_false : (b : Bool) → not b ≡ true → b ≡ false
 not_false true e = sym e
 not_false false e = refl
 
@@ -146,7 +145,7 @@ pass : (text : List ℕ) (place size : ℕ) (piece : Piece) → place ≤ length
 pass text place size piece within there =
     let sized = there.sized in
     let front : take size (drop place text) ≡ bytes_of piece =
-        ap (take size) there.split ∙ ap (λ n. take n (bytes_of piece ++ drop size (drop place text))) sized ∙ take-append_seam (bytes_of piece) (drop size (drop place text)) in
+    ap (take size) there.split ∙ ap (λ n. take n (bytes_of piece ++ drop size (drop place text))) sized ∙ take-append_seam (bytes_of piece) (drop size (drop place text)) in
     let long = ap length there.split ∙ length-append (bytes_of piece) (drop size (drop place text)) in
     record {
       before = take-add place size text ∙ ap (λ bs. take place text ++ bs) front;

@@ -1,5 +1,5 @@
 -- What the scanner finds at the front of a rest of a text. No public clause cites this.
-use Rattle.std.specs.Prelude.{◌≡◌, ◌≤◌, ℕ, false, if◌then◌else◌, IsTrue, List, [], ◌∷◌, ◌++◌, length, drop}
+use Rattle.std.specs.Prelude.{◌≡◌, ℕ, false, if◌then◌else◌, IsTrue, List, ◌∷◌, ◌++◌, length, drop}
 use Rattle.std.specs.declared.option.Option.{Option}
 use Rattle.std.specs.declared.option.Option.TheVariants.{Some, None}
 use Rattle.wb_lex.specs.declared.tokens.TokenKind.{TokenKind}

@@ -26,7 +26,10 @@ pub enum Front {
 fn is_mark(byte: u8) -> bool
     ensures { result ≡ is_mark byte }
 {
-    matches!(byte, b':' | b',' | b'|' | b'+' | b'-' | b'*' | b'(' | b')' | b'$')
+    matches!(
+        byte,
+        b':' | b',' | b'|' | b'+' | b'-' | b'*' | b'(' | b')' | b'$'
+    )
 }
 
 // How many bytes stand before the end of the line.

@@ -22,11 +22,21 @@ pub fn lex(alloc: Global, text: &[u8]) -> Result<Tokens, LexFault>
             Front::Skipped(size) => at += size,
             Front::Token(kind, size) => {
                 at += size;
-                tokens.push(Token { kind, line, start, end: at })?;
+                tokens.push(Token {
+                    kind,
+                    line,
+                    start,
+                    end: at,
+                })?;
             }
             Front::LineEnd => {
                 at += 1;
-                tokens.push(Token { kind: TokenKind::LineEnd, line, start, end: at })?;
+                tokens.push(Token {
+                    kind: TokenKind::LineEnd,
+                    line,
+                    start,
+                    end: at,
+                })?;
                 line += 1;
                 line_start = at;
             }

@@ -13,6 +13,6 @@ returns-then-first-eq59 c = comment_there c.args.rest.now c.line_length.result c
 pub returns-then-is_return : goal.returns-then-is_return
 returns-then-is_return c =
     elim c.if-is_blank.branch [
-      then-is_blank w ↦ blank_there c.args.rest.now c.requires (sym c.is_blank.ensures ∙ w.if-is_blank.true)
-    | else-is_blank w ↦ return_there c.args.rest.now c.requires (rw take_rest at (sym w.is_return.ensures ∙ (sym w.value-is ∙ c.if-is_return.true)))
+      | then-is_blank w ↦ blank_there c.args.rest.now c.requires (sym c.is_blank.ensures ∙ w.if-is_blank.true)
+      | else-is_blank w ↦ return_there c.args.rest.now c.requires (rw take_rest at (sym w.is_return.ensures ∙ (sym w.value-is ∙ c.if-is_return.true)))
     ]

@@ -1,6 +1,4 @@
 use Rattle.std.proofs.lemmas.List.{take_rest}
-use Rattle.wb_lex.specs.declared.front.Front.TheVariants.{Skipped, Token, LineEnd, Wide}
-use Rattle.wb_lex.specs.Scan.{IsFront}
 use Rattle.wb_lex.proofs.ScanLemmas.{advance_skipped, advance_token, advance_line, wide_there}
 use Rattle.wb_lex.proofs.scanner.lex.Goals as goal
 
