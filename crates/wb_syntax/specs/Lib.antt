@@ -8,3 +8,4 @@ pub mod Mnemonic
 pub mod Clause
 pub mod Statement
 pub mod Source
+pub mod Reading

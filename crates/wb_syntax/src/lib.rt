@@ -2,11 +2,13 @@
 #![tactic(auto)]
 
 mod clauses;
+mod expressions;
 mod exprs;
 mod faults;
 mod mnemonics;
 mod names;
 mod parser;
+mod refusals;
 mod separators;
 mod spans;
 mod spelling;
