@@ -5,6 +5,7 @@ mod clauses;
 mod expressions;
 mod exprs;
 mod faults;
+mod laws;
 mod mnemonics;
 mod names;
 mod parser;
