@@ -35,7 +35,7 @@ pub one_mark : (tokens : List Token) (place m n : ℕ) → has_mark tokens place
 one_mark tokens place m n a b = mark_at m n (slice_get tokens place) a b
 
 -- a mark that stands where another does not
-other_mark : (tokens : List Token) (place m n : ℕ) → has_mark tokens place m ≡ true → (m ≡ n → ⊥) → has_mark tokens place n ≡ false
+pub other_mark : (tokens : List Token) (place m n : ℕ) → has_mark tokens place m ≡ true → (m ≡ n → ⊥) → has_mark tokens place n ≡ false
 other_mark tokens place m n a differ = by (has_mark tokens place n) refl
   where
     by : (b : Bool) → has_mark tokens place n ≡ b → has_mark tokens place n ≡ false
@@ -46,10 +46,10 @@ other_mark tokens place m n a differ = by (has_mark tokens place n) refl
 marked : (tokens : List Token) (place m : ℕ) (token : Token) → Stands tokens place token → has_mark tokens place m ≡ true → is_mark_kind m token.kind ≡ true
 marked tokens place m token stands e = rw stands at e
 
-number_is_no_mark : (tokens : List Token) (place m n : ℕ) (token : Token) → Stands tokens place token → token.kind ≡ kind.Number n → has_mark tokens place m ≡ true → ⊥
+pub number_is_no_mark : (tokens : List Token) (place m n : ℕ) (token : Token) → Stands tokens place token → token.kind ≡ kind.Number n → has_mark tokens place m ≡ true → ⊥
 number_is_no_mark tokens place m n token stands e mark = let wrong = rw e at (marked tokens place m token stands mark) in cc
 
-name_is_no_mark : (tokens : List Token) (place m : ℕ) (token : Token) → Stands tokens place token → token.kind ≡ kind.Name → has_mark tokens place m ≡ true → ⊥
+pub name_is_no_mark : (tokens : List Token) (place m : ℕ) (token : Token) → Stands tokens place token → token.kind ≡ kind.Name → has_mark tokens place m ≡ true → ⊥
 name_is_no_mark tokens place m token stands e mark = let wrong = rw e at (marked tokens place m token stands mark) in cc
 
 -- operators after a term
@@ -59,6 +59,14 @@ sum_is_no_star tokens place sum = by (or_cases (has_mark tokens place 43) (has_m
     by : (has_mark tokens place 43 ≡ true) ⊎ (has_mark tokens place 45 ≡ true) → has_mark tokens place 42 ≡ false
     by (inl e) = other_mark tokens place 43 42 e (λ h. absurd (omega arith))
     by (inr e) = other_mark tokens place 45 42 e (λ h. absurd (omega arith))
+
+-- nothing goes on with an expression at a parenthesis that closes
+pub no_star : (tokens : List Token) (place : ℕ) → has_mark tokens place 41 ≡ true → has_mark tokens place 42 ≡ false
+no_star tokens place closed = other_mark tokens place 41 42 closed (λ h. absurd (omega arith))
+
+pub no_sum : (tokens : List Token) (place : ℕ) → has_mark tokens place 41 ≡ true → has_sum_mark tokens place ≡ false
+no_sum tokens place closed =
+    rw (other_mark tokens place 41 43 closed (λ h. absurd (omega arith)), other_mark tokens place 41 45 closed (λ h. absurd (omega arith))) refl
 
 module _ (text : List ℕ) (tokens : List Token) where
   abbrev pub AtomsAreOne : ℕ → Type 0
@@ -246,7 +254,7 @@ module _ (text : List ℕ) (tokens : List Token) where
 
   -- ---- expressions
 
-  term_no_minus : (depth s e : ℕ) (x : Tree) → has_mark tokens s 45 ≡ true → IsTerm text tokens depth s e x → ⊥
+  pub term_no_minus : (depth s e : ℕ) (x : Tree) → has_mark tokens s 45 ≡ true → IsTerm text tokens depth s e x → ⊥
   term_no_minus depth s e x mark is = no_atom_no_term depth s e x (λ m z. atom_no_minus depth s m z mark) is
 
   firsts_one : (depth s e e' : ℕ) (x x' : Tree) → TermsAreOne depth → IsFirst text tokens depth s e x → has_mark tokens e 42 ≡ false → IsFirst text tokens depth s e' x' → has_mark tokens e' 42 ≡ false
@@ -299,7 +307,7 @@ module _ (text : List ℕ) (tokens : List Token) where
 
   -- ---- atoms
 
-  same_token : (s : ℕ) (a b : Token) → Stands tokens s a → Stands tokens s b → a ≡ b
+  pub same_token : (s : ℕ) (a b : Token) → Stands tokens s a → Stands tokens s b → a ≡ b
   same_token s a b e f = cc
 
   module _ (depth : ℕ) (deeper_one : (deeper : ℕ) → depth ≡ deeper + 1 → AtomsAreOne deeper) where
@@ -332,15 +340,9 @@ module _ (text : List ℕ) (tokens : List Token) where
     atoms_one s e e' x x' (inside _ _ _ _ _ _ _ _ mark _ _) (here _ _ _ ends' mark') = let same = one_mark tokens s 36 40 mark' mark in absurd (omega arith)
     atoms_one s e e' x x' (inside _ deeper _ close _ _ below ends mark is closed) (inside _ deeper' _ close' _ _ below' ends' mark' is' closed') =
         let level : deeper' ≡ deeper = omega arith in
-        let same = exprs_one deeper (deeper_one deeper below) (s + 1) close close' x x' is (no_star close closed) (no_sum close closed)
-            (subst (λ d. IsExpr text tokens d (s + 1) close' x') level is') (no_star close' closed') (no_sum close' closed') in
+        let same = exprs_one deeper (deeper_one deeper below) (s + 1) close close' x x' is (no_star tokens close closed) (no_sum tokens close closed)
+            (subst (λ d. IsExpr text tokens d (s + 1) close' x') level is') (no_star tokens close' closed') (no_sum tokens close' closed') in
         (ends ∙ ap (λ k. k + 1) same.0 ∙ sym ends', same.1)
-      where
-        no_star : (k : ℕ) → has_mark tokens k 41 ≡ true → has_mark tokens k 42 ≡ false
-        no_star k closed = other_mark tokens k 41 42 closed (λ h. absurd (omega arith))
-
-        no_sum : (k : ℕ) → has_mark tokens k 41 ≡ true → has_sum_mark tokens k ≡ false
-        no_sum k closed = rw (other_mark tokens k 41 43 closed (λ h. absurd (omega arith)), other_mark tokens k 41 45 closed (λ h. absurd (omega arith))) refl
 
   pub atoms_are_one : (depth : ℕ) → AtomsAreOne depth
   atoms_are_one zero = atoms_one zero (λ deeper e. absurd (omega arith))

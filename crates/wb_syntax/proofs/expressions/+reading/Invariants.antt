@@ -3,19 +3,19 @@ use Rattle.wb_syntax.specs.Expression.{has_mark, IsExpr, IsTerm}
 use Rattle.wb_syntax.proofs.expressions.+reading.Given as goal
 
 abbrev pub decreases-atom : goal.decreases-atom
-decreases-atom l = l.depth * 5
+decreases-atom l = l.depth * 5 + 1
 
 abbrev pub decreases-inside : goal.decreases-inside
-decreases-inside l = l.depth * 5 - 1
+decreases-inside l = l.depth * 5
 
 abbrev pub decreases-term : goal.decreases-term
-decreases-term l = l.depth * 5 + 1
+decreases-term l = l.depth * 5 + 2
 
 abbrev pub decreases-first_term : goal.decreases-first_term
-decreases-first_term l = l.depth * 5 + 2
+decreases-first_term l = l.depth * 5 + 3
 
 abbrev pub decreases-expr : goal.decreases-expr
-decreases-expr l = l.depth * 5 + 3
+decreases-expr l = l.depth * 5 + 4
 
 -- the tokens so far are a term
 abbrev pub invariant-term-loop-alloc : goal.invariant-term-loop-alloc
