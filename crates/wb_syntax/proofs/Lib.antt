@@ -1,3 +1,6 @@
 pub mod Spellings
 pub mod Chains
 pub mod Readings
+pub mod OneClause
+pub mod Cuts
+pub mod Operands

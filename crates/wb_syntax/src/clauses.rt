@@ -96,7 +96,7 @@ fn long(first: &[u8], second: &[u8], third: &[u8]) -> Option<Clause>
 }
 
 // The clause that these tokens are.
-fn clause_of(text: &[u8], tokens: &[Token]) -> Option<Clause>
+pub fn clause_of(text: &[u8], tokens: &[Token]) -> Option<Clause>
     ensures { MatchOption result ((clause : Clause) → IsClause text.now tokens.now clause → ⊥) (IsClause text.now tokens.now) }
 {
     match tokens {

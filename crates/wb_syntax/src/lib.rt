@@ -5,6 +5,8 @@ mod clauses;
 mod expressions;
 mod exprs;
 mod faults;
+mod fields;
+mod instructions;
 mod laws;
 mod mnemonics;
 mod names;
