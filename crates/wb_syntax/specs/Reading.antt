@@ -3,6 +3,8 @@ use Rattle.std.specs.Prelude.{◌≡◌, ℕ, ◌+◌, Bool, true, false, ◌||�
 use Rattle.std.specs.declared.result.Result.{Result}
 use Rattle.std.specs.declared.result.Result.TheVariants.{Ok, Err}
 use Rattle.wb_lex.specs.declared.tokens.Token.{Token}
+use Rattle.wb_syntax.specs.declared.faults.SyntaxFault.{SyntaxFault}
+use Rattle.wb_syntax.specs.declared.faults.SyntaxFault.TheVariants as fault
 use Rattle.wb_syntax.specs.declared.refusals.Refusal.{Refusal}
 use Rattle.wb_syntax.specs.declared.refusals.Refusal.TheVariants.{Syntax, OutOfMemory}
 use Rattle.wb_lex.specs.declared.tokens.TokenKind.TheVariants as kind
@@ -59,3 +61,8 @@ abbrev pub IsClosing : List Token → ℕ → Tree → Result Read Refusal → T
 IsClosing tokens close x (Ok read) = (has_mark tokens close 41 ≡ true) × (read.0 ≡ x) × (read.1 ≡ close + 1)
 IsClosing tokens close x (Err Syntax) = has_mark tokens close 41 ≡ false
 IsClosing tokens close x (Err OutOfMemory) = ⊥
+
+-- a refusal of a line, as the fault of its text
+abbrev pub IsFault : ℕ → Refusal → SyntaxFault → Type 0
+IsFault line Syntax found = found ≡ fault.Syntax line
+IsFault line OutOfMemory found = found ≡ fault.OutOfMemory

@@ -26,7 +26,7 @@ fn token_at(tokens: &[Token], place: usize) -> Option<Token>
 }
 
 // Whether this mark stands at a place.
-fn has_mark(tokens: &[Token], place: usize, mark: u8) -> bool
+pub fn has_mark(tokens: &[Token], place: usize, mark: u8) -> bool
     ensures value { result ≡ has_mark tokens.now place mark }
     ensures within { IsTrue result → place < length tokens.now }
 {
