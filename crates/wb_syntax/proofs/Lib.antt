@@ -4,3 +4,5 @@ pub mod Readings
 pub mod OneClause
 pub mod Cuts
 pub mod Operands
+pub mod Lines
+pub mod OneStatement

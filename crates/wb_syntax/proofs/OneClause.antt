@@ -46,7 +46,7 @@ named_p : (x : P) → named p_name p_list (p_name x) ≡ Some x
 named_p p.Ram = refl
 named_p _ = refl
 
-named_dst : (x : Dst) → named dst_name dst_list (dst_name x) ≡ Some x
+pub named_dst : (x : Dst) → named dst_name dst_list (dst_name x) ≡ Some x
 named_dst dst.Non = refl
 named_dst _ = refl
 

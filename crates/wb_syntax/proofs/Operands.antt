@@ -1,5 +1,5 @@
 -- What follows a mnemonic is read in one way.
-use Rattle.std.proofs.Common.{◌≡◌, ℕ, ◌+◌, Option, Some, None, Result, Ok, Err, List, [], ◌∷◌, ◌++◌, length, sym, refl, ap, ◌∙◌, subst, arith, append_assoc, append-nil, map}
+use Rattle.std.proofs.Common.{◌≡◌, ℕ, ◌+◌, ◌≤◌, get_or, drop, Option, Some, None, Result, Ok, Err, List, [], ◌∷◌, ◌++◌, length, sym, refl, ap, ◌∙◌, subst, arith, append_assoc, append-nil, map}
 use Rattle.std.specs.Option.{unwrap_or}
 use Rattle.wb_lex.specs.declared.tokens.Token.{Token}
 use Rattle.wb_syntax.specs.declared.refusals.Refusal.{Refusal}
@@ -84,10 +84,10 @@ one_mnemonic a b name e f =
         ap (λ o. named name_or_none all_mnemonics (unwrap_or o [])) (e ∙ sym f) in
     cc
 
-same_head : (a b : Token) (xs ys : List Token) → a ∷ xs ≡ b ∷ ys → (a ≡ b) × (xs ≡ ys)
+pub same_head : (a b : Token) (xs ys : List Token) → a ∷ xs ≡ b ∷ ys → (a ≡ b) × (xs ≡ ys)
 same_head a b xs ys e = (cc, cc)
 
-operands_of : (text : List ℕ) (head : Token) (rest : List Token) (name : List ℕ) (m : Mnemonic) → Says text head name → mnemonic_name m ≡ Some name → (body : Body)
+pub operands_of : (text : List ℕ) (head : Token) (rest : List Token) (name : List ℕ) (m : Mnemonic) → Says text head name → mnemonic_name m ≡ Some name → (body : Body)
     → IsInstruction text (head ∷ rest) body → IsOperands text m rest body
 operands_of text head rest name m said named_so body is =
     let same = same_head head is.head rest is.rest is.split in
@@ -103,3 +103,9 @@ body_is text head rest name m (Ok body) said named_so is = record { head = head;
 body_is text head rest name m (Err refusal) said named_so refused =
     refused_by (IsOperands text m rest) (IsBody text (head ∷ rest)) refusal refused (λ body is. (body, operands_of text head rest name m said named_so body is))
 
+
+-- the same of tokens that have a first one
+pub body_at : (text : List ℕ) (tokens : List Token) (d : Token) (name : List ℕ) (m : Mnemonic) (r : Result Body Refusal) → 1 ≤ length tokens → Says text (get_or tokens 0 d) name → mnemonic_name m ≡ Some name
+    → IsReading (IsOperands text m (drop 1 tokens)) r → IsReading (IsBody text tokens) r
+body_at text [] d name m r some said named_so is = absurd (omega arith)
+body_at text (head ∷ rest) d name m r some said named_so is = body_is text head rest name m r said named_so is

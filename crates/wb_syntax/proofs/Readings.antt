@@ -18,7 +18,7 @@ not_false_is_true : (b : Bool) → (b ≡ false → ⊥) → b ≡ true
 not_false_is_true true h = refl
 not_false_is_true false h = absurd (h refl)
 
-is_own_mark : (m : ℕ) (token : Token) → token.kind ≡ kind.Mark m → is_mark_kind m token.kind ≡ true
+pub is_own_mark : (m : ℕ) (token : Token) → token.kind ≡ kind.Mark m → is_mark_kind m token.kind ≡ true
 is_own_mark m token is = rw is (eq-eqb m m refl)
 
 mark_is : (tokens : List Token) (s m : ℕ) (token : Token) → Stands tokens s token → token.kind ≡ kind.Mark m → has_mark tokens s m ≡ true
