@@ -154,7 +154,7 @@ one_clause text (x ∷ y ∷ comma ∷ z ∷ []) c d a b =
     let third : others.2 ≡ names.2 = sym others.5.same ∙ names.5.same in
     let is = others.6 in
     let moved : IsLong names.0 names.1 names.2 d =
-        subst (λ n. IsLong names.0 names.1 n d) third (subst (λ n. IsLong names.0 n others.2 d) second (subst (λ n. IsLong n others.1 others.2 d) first is)) in
+    subst (λ n. IsLong names.0 names.1 n d) third (subst (λ n. IsLong names.0 n others.2 d) second (subst (λ n. IsLong n others.1 others.2 d) first is)) in
     one_long names.0 names.1 names.2 c d names.6 moved
 one_clause text (x ∷ y ∷ z ∷ u ∷ v ∷ tokens) c d a b = absurd a
 
