@@ -2,15 +2,14 @@
 --
 -- A term is an atom and the factors that follow it, one after the other, and an expression a first term and what is
 -- added to it. Where two readings begin alike, the longer one goes on from where the shorter one ends.
-use Rattle.std.proofs.Common.{◌≡◌, ℕ, zero, suc, ◌+◌, ◌<◌, ◌≤◌, ◌⊎◌, inl, inr, Bool, true, false, ◌||◌, eqb, Option, Some, None, List, length, sym, refl, ap, ◌∙◌, subst, arith}
+use Rattle.std.proofs.Common.{◌≡◌, ℕ, zero, suc, ◌+◌, ◌≤◌, ◌⊎◌, inl, inr, Bool, true, false, Option, Some, None, List, length, sym, refl, ap, ◌∙◌, subst, arith}
 use Rattle.std.specs.List.{slice_get}
 use Rattle.std.proofs.lemmas.Bool.{eqb-true, cases_Bool, or_cases, or_right}
 use Rattle.wb_lex.specs.declared.tokens.Token.{Token}
 use Rattle.wb_lex.specs.declared.tokens.TokenKind.{TokenKind}
 use Rattle.wb_lex.specs.declared.tokens.TokenKind.TheVariants as kind
-use Rattle.wb_syntax.specs.declared.spans.Span.{Span}
-use Rattle.wb_syntax.specs.Spelling.{IsLabel, span_of}
-use Rattle.wb_syntax.specs.Tree.{Tree, Number, Label, Here, Minus, Plus, Less, Times}
+use Rattle.wb_syntax.specs.Spelling.{span_of}
+use Rattle.wb_syntax.specs.Tree.{Tree, Number, Label, Minus, Plus, Less, Times}
 use Rattle.wb_syntax.specs.Expression.{Stands, is_mark_kind, is_this_mark, has_mark, IsExpr, IsTerm, IsAtom, term, minus, plus, less, atom, times, number, label, here, inside}
 use Rattle.std.proofs.lemmas.Option.{slice_get_past}
 use Rattle.wb_syntax.specs.Expression.{IsExpression}

@@ -1,5 +1,5 @@
 -- What follows a mnemonic is read in one way.
-use Rattle.std.proofs.Common.{◌≡◌, ℕ, ◌+◌, ◌≤◌, get_or, drop, Option, Some, None, Result, Ok, Err, List, [], ◌∷◌, ◌++◌, length, sym, refl, ap, ◌∙◌, subst, arith, append_assoc, append-nil, map}
+use Rattle.std.proofs.Common.{◌≡◌, ℕ, ◌≤◌, get_or, drop, Some, Result, Ok, Err, List, [], ◌∷◌, ◌++◌, length, sym, refl, ap, ◌∙◌, subst, arith, append_assoc, append-nil, map}
 use Rattle.std.specs.Option.{unwrap_or}
 use Rattle.wb_lex.specs.declared.tokens.Token.{Token}
 use Rattle.wb_syntax.specs.declared.refusals.Refusal.{Refusal}
