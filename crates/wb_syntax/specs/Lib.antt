@@ -1,0 +1,9 @@
+pub mod Tree
+pub mod Codes
+pub mod View
+pub mod Spelling
+pub mod Marks
+pub mod Expression
+pub mod Clause
+pub mod Statement
+pub mod Source
