@@ -1,0 +1,5 @@
+pub mod Value
+pub mod Space
+pub mod Layout
+pub mod Refusal
+pub mod Reading
