@@ -2,6 +2,7 @@
 use Rattle.std.specs.Prelude.{◌≡◌, ℕ, ⊤}
 use Rattle.std.specs.declared.option.Option.{Option}
 use Rattle.std.specs.declared.option.Option.TheVariants.{Some, None}
+use Rattle.wb_asm.specs.declared.faults.AsmFault.{AsmFault}
 use Rattle.wb_asm.specs.declared.faults.AsmKind.{AsmKind}
 use Rattle.wb_asm.specs.declared.faults.AsmError.{AsmError}
 use Rattle.wb_asm.specs.declared.faults.AsmError.TheVariants.{Fault, OutOfMemory}
@@ -10,3 +11,8 @@ use Rattle.wb_asm.specs.declared.faults.AsmError.TheVariants.{Fault, OutOfMemory
 abbrev pub IsRefusal : ℕ → Option AsmKind → AsmError → Type 0
 IsRefusal line kind (Fault fault) = (fault.line ≡ line) × (kind ≡ Some fault.kind)
 IsRefusal line kind OutOfMemory = ⊤
+
+-- the first fault of several lines, where there is one; want of memory is free
+abbrev pub IsFirst : Option AsmFault → AsmError → Type 0
+IsFirst first (Fault fault) = first ≡ Some fault
+IsFirst first OutOfMemory = ⊤

@@ -12,7 +12,7 @@ pub record Space : Type 0 where
   pub taken : List Bool
 
 -- a memory of so many places, at its first place and without a word
-abbrev pub empty : ℕ → Space
+unfoldable pub empty : ℕ → Space
 empty size = record { at = 0; taken = replicate size false }
 
 -- with a word at the next place

@@ -25,6 +25,7 @@ impl Model for Space {
 
 impl Space {
     /// A memory without a word.
+    #[tactic(auto, unfolding(crate::specs::Space::empty))]
     pub(crate) fn empty(alloc: Global, size: u16) -> Result<Self, AllocError>
         requires { size ≤ 2048 }
         ensures { IfOk result (λ space. space ≡ empty size) }
