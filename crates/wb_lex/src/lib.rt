@@ -7,9 +7,15 @@
 #![tactic(auto)]
 
 mod faults;
+mod front;
+mod laws;
 mod scanner;
+#[cfg(test)]
+mod tests;
 mod tokens;
+mod words;
 
 pub use faults::LexFault;
+pub use laws::each_text_has_one_answer;
 pub use scanner::lex;
 pub use tokens::{Token, TokenKind, Tokens};
