@@ -1,5 +1,5 @@
 -- One word of several is placed.
-use Rattle.std.proofs.Common.{◌≡◌, ℕ, suc, ◌+◌, ◌-◌, ◌<◌, Option, Some, None, refl, sym, ap, ◌∙◌, subst, arith}
+use Rattle.std.proofs.Common.{◌≡◌, ℕ, suc, ◌+◌, ◌-◌, ◌<◌, Option, None, sym, ap, ◌∙◌, arith}
 use Rattle.std.specs.Option.{option_or}
 use Rattle.wb_asm.specs.declared.faults.AsmKind.{AsmKind}
 use Rattle.wb_asm.specs.Space.{Space, with_word, word_fault, with_words, words_fault}

@@ -1,12 +1,12 @@
 -- The third reading of a source: what its names stand for, and where its words stand, line by line.
-use Rattle.std.specs.Prelude.{ℕ, zero, ◌-◌, ◌^◌, ℤ, pos, negsuc, if◌then◌else◌, List, [], ◌∷◌, ◌++◌, length, is_some}
+use Rattle.std.specs.Prelude.{ℕ, ◌-◌, ◌^◌, ℤ, pos, negsuc, if◌then◌else◌, List, [], ◌∷◌, ◌++◌, length, is_some}
 use Rattle.std.specs.Int.RustNames.{unsigned_abs}
 use Rattle.std.specs.Option.{option_or}
 use Rattle.std.specs.declared.option.Option.{Option}
 use Rattle.std.specs.declared.option.Option.TheVariants.{Some, None}
 use Rattle.wb_syntax.specs.declared.spans.Span.{Span}
 use Rattle.wb_syntax.specs.declared.statements.Body.{Body}
-use Rattle.wb_syntax.specs.declared.statements.Body.TheVariants.{Empty, Op, Rt, Ld, Jump, Org, Dorg, Equ, Words, Dwords}
+use Rattle.wb_syntax.specs.declared.statements.Body.TheVariants.{Op, Rt, Ld, Jump, Org, Dorg, Equ, Words, Dwords}
 use Rattle.wb_syntax.specs.declared.statements.Statement.{Statement}
 use Rattle.wb_asm.specs.declared.faults.AsmKind.{AsmKind}
 use Rattle.wb_asm.specs.declared.faults.AsmKind.TheVariants.{Twice}
@@ -104,5 +104,5 @@ unfoldable pub line_fault : List ℕ → Layout → Statement → Option AsmKind
 line_fault text before statement =
     option_or (label_fault text before.names statement.label)
     (option_or (equ_fault text (with_label text before.names (here before statement.body) statement.label) statement.body)
-      (option_or (early_fault text before statement.body)
-        (place_fault before statement.body)))
+    (option_or (early_fault text before statement.body)
+    (place_fault before statement.body)))

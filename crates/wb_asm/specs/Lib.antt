@@ -6,5 +6,7 @@ pub mod Words
 pub mod Filling
 pub mod Assembly
 pub mod Laid
+pub mod Statements
+pub mod Causes
 pub mod Refusal
 pub mod Reading

@@ -1,5 +1,5 @@
 -- What the parts of a line's reading give. No public clause cites this.
-use Rattle.std.specs.Prelude.{◌≡◌, ℕ, ℤ, pos, ◌<ℤ◌, ◌≤ℤ◌, List, true}
+use Rattle.std.specs.Prelude.{◌≡◌, ℕ, ℤ, pos, List, true}
 use Rattle.std.specs.declared.option.Option.TheVariants.{None}
 use Rattle.wb_syntax.specs.declared.statements.Body.{Body}
 use Rattle.wb_syntax.specs.declared.statements.Body.TheVariants.{Org, Dorg}

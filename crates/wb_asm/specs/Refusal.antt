@@ -1,7 +1,7 @@
 -- Why the reading of a line stops. No public clause cites this.
 use Rattle.std.specs.Prelude.{◌≡◌, ℕ, ⊤}
 use Rattle.std.specs.declared.option.Option.{Option}
-use Rattle.std.specs.declared.option.Option.TheVariants.{Some, None}
+use Rattle.std.specs.declared.option.Option.TheVariants.{Some}
 use Rattle.wb_asm.specs.declared.faults.AsmFault.{AsmFault}
 use Rattle.wb_asm.specs.declared.faults.AsmKind.{AsmKind}
 use Rattle.wb_asm.specs.declared.faults.AsmError.{AsmError}

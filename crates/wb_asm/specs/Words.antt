@@ -1,10 +1,10 @@
 -- The fourth reading of a source: the words that its statements place.
-use Rattle.std.specs.Prelude.{ℕ, ◌+◌, ◌%◌, ℤ, pos, negsuc, List, [], ◌∷◌, map, slice_set}
+use Rattle.std.specs.Prelude.{ℕ, ◌+◌, ℤ, pos, negsuc, List, [], ◌∷◌, map, slice_set}
 use Rattle.std.specs.Int.{int_rem_euclid}
 use Rattle.std.specs.Int.RustNames.{unsigned_abs}
 use Rattle.std.specs.Option.{option_or}
 use Rattle.std.specs.declared.option.Option.{Option}
-use Rattle.std.specs.declared.option.Option.TheVariants.{Some, None}
+use Rattle.std.specs.declared.option.Option.TheVariants.{None}
 use Rattle.wb_word.specs.Encoding.{number, addr_at, spare_at}
 use Rattle.wb_word.specs.declared.codes.Dst.{Dst}
 use Rattle.wb_word.specs.declared.conditions.Cond.{Cond}
@@ -12,7 +12,7 @@ use Rattle.wb_word.specs.declared.words.Instr.{Instr}
 use Rattle.wb_word.specs.declared.words.Instr.TheVariants as instr
 use Rattle.wb_syntax.specs.Tree.{Tree}
 use Rattle.wb_syntax.specs.declared.statements.Body.{Body}
-use Rattle.wb_syntax.specs.declared.statements.Body.TheVariants.{Empty, Op, Rt, Ld, Jump, Org, Dorg, Equ, Words, Dwords}
+use Rattle.wb_syntax.specs.declared.statements.Body.TheVariants.{Op, Rt, Ld, Jump, Dorg, Words, Dwords}
 use Rattle.wb_syntax.specs.declared.statements.Statement.{Statement}
 use Rattle.wb_asm.specs.declared.counters.Counters.{Counters}
 use Rattle.wb_asm.specs.declared.faults.AsmKind.{AsmKind}

@@ -2,6 +2,9 @@
 ghost use Rattle.std.specs.Prelude.{◌≡◌};
 
 use std::alloc::{AllocError, AllocFailed};
+use wb_lex::LexFault;
+use wb_syntax::SyntaxFault;
+use wb_word::OutOfMemory;
 
 /// What is wrong on a line.
 #[derive(Clone, Copy, PartialEq, Eq, Debug)]
@@ -57,5 +60,61 @@ impl<T: Drop> From<AllocFailed<T>> for AsmError {
 
     fn from(_: AllocFailed<T>) -> Self {
         AsmError::OutOfMemory
+    }
+}
+
+impl From<OutOfMemory> for AsmError {
+    ghost use Rattle.wb_asm.specs.declared.faults.AsmError.{AsmError};
+
+    ghost from_gives = { λ _ error. error ≡ AsmError.OutOfMemory };
+
+    fn from(_: OutOfMemory) -> Self {
+        AsmError::OutOfMemory
+    }
+}
+
+impl From<AsmFault> for AsmError {
+    ghost use Rattle.wb_asm.specs.declared.faults.AsmError.{AsmError};
+
+    ghost from_gives = { λ fault error. error ≡ AsmError.Fault fault };
+
+    fn from(fault: AsmFault) -> Self {
+        AsmError::Fault(fault)
+    }
+}
+
+impl From<LexFault> for AsmError {
+    ghost use Rattle.wb_asm.specs.Causes.{of_lex};
+
+    ghost from_gives = { λ fault error. error ≡ of_lex fault };
+
+    fn from(fault: LexFault) -> Self {
+        match fault {
+            LexFault::Byte { line, column } => AsmError::Fault(AsmFault {
+                line,
+                kind: AsmKind::Byte(column),
+            }),
+            LexFault::Wide(line) => AsmError::Fault(AsmFault {
+                line,
+                kind: AsmKind::Wide,
+            }),
+            LexFault::OutOfMemory => AsmError::OutOfMemory,
+        }
+    }
+}
+
+impl From<SyntaxFault> for AsmError {
+    ghost use Rattle.wb_asm.specs.Causes.{of_syntax};
+
+    ghost from_gives = { λ fault error. error ≡ of_syntax fault };
+
+    fn from(fault: SyntaxFault) -> Self {
+        match fault {
+            SyntaxFault::Syntax(line) => AsmError::Fault(AsmFault {
+                line,
+                kind: AsmKind::Syntax,
+            }),
+            SyntaxFault::OutOfMemory => AsmError::OutOfMemory,
+        }
     }
 }

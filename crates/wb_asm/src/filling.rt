@@ -31,7 +31,7 @@ fn put_program(
     requires { at + length xs.now ≤ 2048 }
     ensures { MatchResult result
         (λ _. (first_of (map (content_fault text.now names.now at) (map Plain xs.now)) ≡ None)
-            × HasProg image.old image.new (with_words_at image.old.prog at (map (content_word text.now names.now at) (map Plain xs.now))))
+        × HasProg image.old image.new (with_words_at image.old.prog at (map (content_word text.now names.now at) (map Plain xs.now))))
         (λ kind. first_of (map (content_fault text.now names.now at) (map Plain xs.now)) ≡ Some kind) }
 {
     let mut place = at;
@@ -53,7 +53,7 @@ fn put_data(
     requires { at + length xs.now ≤ 1024 }
     ensures { MatchResult result
         (λ _. (first_of (map (data_fault text.now names.now at) xs.now) ≡ None)
-            × HasDrom image.old image.new (with_words_at image.old.drom at (map (data_word text.now names.now at) xs.now)))
+        × HasDrom image.old image.new (with_words_at image.old.drom at (map (data_word text.now names.now at) xs.now)))
         (λ kind. first_of (map (data_fault text.now names.now at) xs.now) ≡ Some kind) }
 {
     let mut place = at;

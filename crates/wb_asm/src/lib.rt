@@ -1,6 +1,7 @@
 //! The assembler.
 #![tactic(auto)]
 
+mod assembly;
 mod counters;
 mod faults;
 mod filling;
@@ -12,4 +13,5 @@ mod spaces;
 mod values;
 mod words;
 
+pub use assembly::assemble;
 pub use faults::{AsmError, AsmFault, AsmKind};

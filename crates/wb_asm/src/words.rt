@@ -70,12 +70,7 @@ pub(crate) fn plain_word(
 }
 
 /// An expression's value as a data word.
-pub(crate) fn data_word(
-    text: &[u8],
-    names: &Names<'_>,
-    here: u16,
-    x: &Expr,
-) -> Result<u16, AsmKind>
+pub(crate) fn data_word(text: &[u8], names: &Names<'_>, here: u16, x: &Expr) -> Result<u16, AsmKind>
     ensures { MatchResult result
         (λ word. (data_fault text.now names.now here x.now ≡ None) × (word ≡ data_word text.now names.now here x.now))
         (λ kind. data_fault text.now names.now here x.now ≡ Some kind) }

@@ -1,4 +1,3 @@
-use Rattle.std.proofs.Common.{sym, subst}
 use Rattle.wb_asm.proofs.Filled.{words_outcome}
 use Rattle.wb_asm.proofs.filling.fill.Goals as goal
 

@@ -1,4 +1,4 @@
-use Rattle.std.proofs.Common.{◌≡◌, ℤ, ◌∷◌, [], ◌++◌, sym, ap, ◌∙◌}
+use Rattle.std.proofs.Common.{ℤ, ◌∷◌, [], ◌++◌, ap, ◌∙◌}
 use Rattle.std.proofs.lemmas.Int.{to_z-of_z}
 use Rattle.std.specs.Int.{w64}
 use Rattle.std.specs.Str.{bytes_eq}
@@ -11,7 +11,7 @@ pub returns : goal.returns
 returns c =
     ap seen c.in_ok-insert.ensures.entries
     ∙ ap (λ (number : ℤ). seen (insert_entry (λ a b. bytes_eq a.now b.now) c.self.inside.numbers.entries c.args.name number))
-      (to_z-of_z w64 c.args.number c.ranges.number)
+    (to_z-of_z w64 c.args.number c.ranges.number)
     ∙ seen_added c.self.inside.numbers c.args.name c.args.number
-      (ap (λ names. number_named names c.args.name.now) c.self.view_is ∙ c.requires)
+    (ap (λ names. number_named names c.args.name.now) c.self.view_is ∙ c.requires)
     ∙ ap (λ names. names ++ (c.args.name.now, c.args.number) ∷ []) c.self.view_is

@@ -1,4 +1,4 @@
-use Rattle.std.proofs.Common.{◌≡◌, sym, ap, ◌∙◌}
+use Rattle.std.proofs.Common.{sym, ap, ◌∙◌}
 use Rattle.wb_asm.specs.Value.{number_named}
 use Rattle.wb_asm.proofs.Named.{lookup_seen}
 use Rattle.wb_asm.proofs.names.Names.number.Goals as goal
