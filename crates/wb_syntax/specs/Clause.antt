@@ -1,6 +1,5 @@
 -- The clauses of a statement that computes and moves, and the word that they make.
-use Rattle.std.specs.Prelude.{◌≡◌, ◌≢◌, ℕ, ◌<◌, true, ⊤, List, [], ◌∷◌, AllPairs, codes}
-use Rattle.std.specs.List.{slice_split}
+use Rattle.std.specs.Prelude.{◌≡◌, ◌≢◌, ℕ, ◌<◌, true, ⊤, List, [], ◌∷◌, codes}
 use Rattle.std.specs.Char.{digit_char}
 use Rattle.wb_lex.specs.declared.tokens.Token.{Token}
 use Rattle.wb_word.specs.Names.{alu_name, acc_name, p_name, dst_name, src_name, dpl_name}
@@ -9,7 +8,8 @@ use Rattle.wb_word.specs.declared.codes.Dpl.TheVariants.{DpNop}
 use Rattle.wb_word.specs.declared.words.OpWord.{OpWord}
 use Rattle.wb_syntax.specs.declared.clauses.Clause.{Clause}
 use Rattle.wb_syntax.specs.declared.clauses.Clause.TheVariants.{Compute, Move, Step, Modify, Lower}
-use Rattle.wb_syntax.specs.Marks.{is_bar}
+use Rattle.wb_syntax.specs.Separators.{parts}
+use Rattle.wb_syntax.specs.declared.separators.Separator.TheVariants.{Bar}
 use Rattle.wb_syntax.specs.Spelling.{Says, IsMark}
 
 -- the tokens are this clause: 44 is the comma
@@ -30,7 +30,7 @@ abbrev pub AreClauses : List ℕ → List (List Token) → List Clause → Type 
 AreClauses text [] [] = ⊤
 AreClauses text [] (_ ∷ _) = ⊥
 AreClauses text (_ ∷ _) [] = ⊥
-AreClauses text (part ∷ parts) (clause ∷ clauses) = IsClause text part clause × AreClauses text parts clauses
+AreClauses text (part ∷ others) (clause ∷ clauses) = IsClause text part clause × AreClauses text others clauses
 
 -- the clauses of one sort have one number
 abbrev pub sort_of : Clause → ℕ
@@ -56,9 +56,19 @@ with_clauses word (clause ∷ clauses) = with_clauses (with_clause word clause) 
 abbrev pub empty_word : OpWord
 empty_word = op_at 0
 
+-- no clause of these has this sort
+abbrev pub Lacks : ℕ → List Clause → Type 0
+Lacks sort [] = ⊤
+Lacks sort (clause ∷ clauses) = (sort_of clause ≢ sort) × Lacks sort clauses
+
+-- no two clauses have one sort
+abbrev pub AreApart : List Clause → Type 0
+AreApart [] = ⊤
+AreApart (clause ∷ clauses) = Lacks (sort_of clause) clauses × AreApart clauses
+
 -- the tokens are clauses with a bar between them, each sort at most once, and this is the word that they make
 pub record AreFields (text : List ℕ) (tokens : List Token) (word : OpWord) : Type 0 where
   pub clauses : List Clause
-  pub each : AreClauses text (slice_split is_bar tokens) clauses
-  pub once : AllPairs (λ a b. sort_of a ≢ sort_of b) clauses
+  pub each : AreClauses text (parts Bar tokens) clauses
+  pub once : AreApart clauses
   pub made : word ≡ with_clauses empty_word clauses

@@ -2,8 +2,10 @@ pub mod Tree
 pub mod Codes
 pub mod View
 pub mod Spelling
-pub mod Marks
+pub mod Separators
 pub mod Expression
+pub mod Mnemonic
 pub mod Clause
 pub mod Statement
 pub mod Source
+pub mod Reading

@@ -1,11 +1,11 @@
 -- The statements of a text, line by line, and its first bad line.
 use Rattle.std.specs.Prelude.{◌≡◌, ℕ, Bool, true, false, ⊤, List, [], ◌∷◌, ◌++◌, filter}
-use Rattle.std.specs.List.{slice_split}
 use Rattle.wb_lex.specs.declared.tokens.Token.{Token}
 use Rattle.wb_syntax.specs.declared.faults.SyntaxFault.{SyntaxFault}
 use Rattle.wb_syntax.specs.declared.faults.SyntaxFault.TheVariants.{Syntax, OutOfMemory}
 use Rattle.wb_syntax.specs.declared.statements.Statement.{Statement}
-use Rattle.wb_syntax.specs.Marks.{is_line_end}
+use Rattle.wb_syntax.specs.Separators.{parts}
+use Rattle.wb_syntax.specs.declared.separators.Separator.TheVariants.{LineEnd}
 use Rattle.wb_syntax.specs.Statement.{IsStatement, line_number}
 
 abbrev pub is_filled : List Token → Bool
@@ -14,7 +14,7 @@ is_filled (_ ∷ _) = true
 
 -- the lines of a text that aren't empty, as their tokens
 abbrev pub lines_of : List Token → List (List Token)
-lines_of tokens = filter is_filled (slice_split is_line_end tokens)
+lines_of tokens = filter is_filled (parts LineEnd tokens)
 
 -- each of these lines says the statement at its place
 abbrev pub AreStatements : List ℕ → List (List Token) → List Statement → Type 0
