@@ -37,11 +37,34 @@ modify_of o = if o.dphm.value == 0 then None else Some (Modify o.dphm)
 abbrev pub lower_of : OpWord → Option Clause
 lower_of o = if o.rpdec then Some Lower else None
 
--- the clauses that aren't left out
+abbrev no_compute : OpWord → Bool
+no_compute o = alu_code o.alu + p_code o.p + acc_code o.acc == 0
+
+abbrev no_move : OpWord → Bool
+no_move o = src_code o.src + dst_code o.dst == 0
+
+abbrev no_step : OpWord → Bool
+no_step o = dpl_code o.dpl == 0
+
+abbrev no_modify : OpWord → Bool
+no_modify o = o.dphm.value == 0
+
+-- the clauses that aren't left out, from the last sort up
+abbrev from_lower : OpWord → List Clause
+from_lower o = option_to_list (lower_of o) ++ []
+
+abbrev from_modify : OpWord → List Clause
+from_modify o = option_to_list (modify_of o) ++ from_lower o
+
+abbrev from_step : OpWord → List Clause
+from_step o = option_to_list (step_of o) ++ from_modify o
+
+abbrev from_move : OpWord → List Clause
+from_move o = option_to_list (move_of o) ++ from_step o
+
+-- all clauses that aren't left out
 abbrev pub listed : OpWord → List Clause
-listed o =
-    option_to_list (compute_of o) ++ (option_to_list (move_of o) ++ (option_to_list (step_of o) ++ (option_to_list (modify_of o)
-          ++ (option_to_list (lower_of o) ++ []))))
+listed o = option_to_list (compute_of o) ++ from_move o
 
 abbrev clause_text : Clause → List ℕ
 clause_text clause = text_of (clause_parts clause)
@@ -99,10 +122,13 @@ parts_append (part ∷ first) second rest h k =
 
 clause_valid : (c : Clause) (rest : List ℕ) → IsApart rest → AreParts (clause_parts c) rest
 clause_valid (Compute alu acc p) rest apart =
-    (named_part (alu_name alu) _ (alu_named alu) refl, (tt, (named_part (acc_name acc) _ (acc_named acc) refl, (refl, (named_part (p_name p) rest (p_named p) apart, tt)))))
+    (named_part (alu_name alu) (text_of (Gap ∷ Named (acc_name acc) ∷ Marked 44 ∷ Named (p_name p) ∷ []) ++ rest) (alu_named alu) refl,
+      (tt, (named_part (acc_name acc) (text_of (Marked 44 ∷ Named (p_name p) ∷ []) ++ rest) (acc_named acc) refl,
+          (refl, (named_part (p_name p) (text_of [] ++ rest) (p_named p) apart, tt)))))
 clause_valid (Move dst src) rest apart =
-    (named_part (codes "mov") _ (record { whole = refl; named = refl }) refl,
-      (tt, (named_part (dst_name dst) _ (dst_named dst) refl, (refl, (named_part (src_name src) rest (src_named src) apart, tt)))))
+    (named_part (codes "mov") (text_of (Gap ∷ Named (dst_name dst) ∷ Marked 44 ∷ Named (src_name src) ∷ []) ++ rest) (record { whole = refl; named = refl }) refl,
+      (tt, (named_part (dst_name dst) (text_of (Marked 44 ∷ Named (src_name src) ∷ []) ++ rest) (dst_named dst) refl,
+          (refl, (named_part (src_name src) (text_of [] ++ rest) (src_named src) apart, tt)))))
 clause_valid (Step dpl) rest apart = (named_part (dpl_name dpl) rest (dpl_named dpl) apart, tt)
 clause_valid (Modify nibble) rest apart = (named_part (109 ∷ digit_char nibble.value ∷ []) rest (modify_named nibble.value nibble.in_range) apart, tt)
 clause_valid Lower rest apart = (named_part (codes "rpdec") rest (record { whole = refl; named = refl }) apart, tt)
@@ -111,11 +137,11 @@ joined_valid : (c : Clause) (cs : List Clause) (rest : List ℕ) → IsApart res
 joined_valid c [] rest apart = clause_valid c rest apart
 joined_valid c (d ∷ ds) rest apart =
     parts_append (clause_parts c) (Gap ∷ Marked 124 ∷ Gap ∷ joined d ds) rest
-    (clause_valid c _ refl) (tt, (refl, (tt, joined_valid d ds rest apart)))
+    (clause_valid c (text_of (Gap ∷ Marked 124 ∷ Gap ∷ joined d ds) ++ rest) refl) (tt, (refl, (tt, joined_valid d ds rest apart)))
 
 pub operation_valid : (name : List ℕ) (cs : List Clause) (rest : List ℕ) → IsName name → IsApart rest → AreParts (operation_parts name cs) rest
 operation_valid name [] rest h apart = (named_part name rest h apart, tt)
-operation_valid name (c ∷ cs) rest h apart = (named_part name _ h refl, (tt, joined_valid c cs rest apart))
+operation_valid name (c ∷ cs) rest h apart = (named_part name (text_of (Gap ∷ joined c cs) ++ rest) h refl, (tt, joined_valid c cs rest apart))
 
 -- the clauses that aren't left out say something
 told_more : (b : Bool) (c : Clause) (cs : List Clause) → (b ≡ false → IsTold c) → AreTold cs → AreTold (option_to_list (if b then None else Some c) ++ cs)
@@ -137,10 +163,10 @@ modify_told n h = grind (arith, nat_tests)
 
 pub listed_told : (o : OpWord) → AreTold (listed o)
 listed_told o =
-    told_more _ (Compute o.alu o.acc o.p) _ (λ h. tt)
-    (told_more _ (Move o.dst o.src) _ (λ h. tt)
-      (told_more _ (Step o.dpl) _ (step_told o.dpl)
-        (told_more _ (Modify o.dphm) _ (modify_told o.dphm.value) (told_last o.rpdec))))
+    told_more (no_compute o) (Compute o.alu o.acc o.p) (from_move o) (λ h. tt)
+    (told_more (no_move o) (Move o.dst o.src) (from_step o) (λ h. tt)
+      (told_more (no_step o) (Step o.dpl) (from_modify o) (step_told o.dpl)
+        (told_more (no_modify o) (Modify o.dphm) (from_lower o) (modify_told o.dphm.value) (told_last o.rpdec))))
 
 -- and each sort stands once
 rises : (least more : ℕ) (cs : List Clause) → least ≤ more → Ascends more cs → Ascends least cs
@@ -157,8 +183,9 @@ ascends_last false = tt
 
 pub listed_ascends : (o : OpWord) → Ascends 0 (listed o)
 listed_ascends o =
-    ascends_more _ (Compute o.alu o.acc o.p) _
-    (ascends_more _ (Move o.dst o.src) _ (ascends_more _ (Step o.dpl) _ (ascends_more _ (Modify o.dphm) _ (ascends_last o.rpdec))))
+    ascends_more (no_compute o) (Compute o.alu o.acc o.p) (from_move o)
+    (ascends_more (no_move o) (Move o.dst o.src) (from_step o)
+      (ascends_more (no_step o) (Step o.dpl) (from_modify o) (ascends_more (no_modify o) (Modify o.dphm) (from_lower o) (ascends_last o.rpdec))))
 
 -- the codes of the fields of a word
 record Codes (w : OpWord) (p alu acc dpl dphm rpdec src dst : ℕ) : Type 0 where
@@ -179,9 +206,89 @@ with_append : (w : OpWord) (first second : List Clause) → with_clauses w (firs
 with_append w [] second = refl
 with_append w (c ∷ first) second = with_append (with_clause w c) first second
 
-after_compute : (b : Bool) (w o : OpWord) (d m r s t : ℕ) → (alu_code o.alu + p_code o.p + acc_code o.acc == 0) ≡ b → Codes w 0 0 0 d m r s t
+equal_from : (a b : ℕ) → (a == b) ≡ true → a ≡ b
+equal_from a b h = grind (arith, nat_tests)
+
+zero_sum : (a b c : ℕ) → (a + b + c == 0) ≡ true → (0 ≡ a) × (0 ≡ b) × (0 ≡ c)
+zero_sum a b c h = let sum = equal_from (a + b + c) 0 h in (omega arith, omega arith, omega arith)
+
+zero_pair : (a b : ℕ) → (a + b == 0) ≡ true → (0 ≡ a) × (0 ≡ b)
+zero_pair a b h = let sum = equal_from (a + b) 0 h in (omega arith, omega arith)
+
+after_compute : (b : Bool) (w o : OpWord) (d m r s t : ℕ) → no_compute o ≡ b → Codes w 0 0 0 d m r s t
     → Codes (with_clauses w (option_to_list (if b then None else Some (Compute o.alu o.acc o.p)))) (p_code o.p) (alu_code o.alu) (acc_code o.acc) d m r s t
-after_compute true w o d m r s t e c = ?
+after_compute true w o d m r s t e c =
+    let zeros = zero_sum (alu_code o.alu) (p_code o.p) (acc_code o.acc) e in
+    record {
+      is_p = c.is_p ∙ zeros.1; is_alu = c.is_alu ∙ zeros.0; is_acc = c.is_acc ∙ zeros.2;
+      is_dpl = c.is_dpl; is_dphm = c.is_dphm; is_rpdec = c.is_rpdec; is_src = c.is_src; is_dst = c.is_dst;
+    }
 after_compute false w o d m r s t e c = record {
   is_p = refl; is_alu = refl; is_acc = refl; is_dpl = c.is_dpl; is_dphm = c.is_dphm; is_rpdec = c.is_rpdec; is_src = c.is_src; is_dst = c.is_dst;
 }
+
+after_move : (b : Bool) (w o : OpWord) (p a q d m r : ℕ) → no_move o ≡ b → Codes w p a q d m r 0 0
+    → Codes (with_clauses w (option_to_list (if b then None else Some (Move o.dst o.src)))) p a q d m r (src_code o.src) (dst_code o.dst)
+after_move true w o p a q d m r e c =
+    let zeros = zero_pair (src_code o.src) (dst_code o.dst) e in
+    record {
+      is_p = c.is_p; is_alu = c.is_alu; is_acc = c.is_acc; is_dpl = c.is_dpl; is_dphm = c.is_dphm; is_rpdec = c.is_rpdec;
+      is_src = c.is_src ∙ zeros.0; is_dst = c.is_dst ∙ zeros.1;
+    }
+after_move false w o p a q d m r e c = record {
+  is_p = c.is_p; is_alu = c.is_alu; is_acc = c.is_acc; is_dpl = c.is_dpl; is_dphm = c.is_dphm; is_rpdec = c.is_rpdec; is_src = refl; is_dst = refl;
+}
+
+after_step : (b : Bool) (w o : OpWord) (p a q m r s t : ℕ) → no_step o ≡ b → Codes w p a q 0 m r s t
+    → Codes (with_clauses w (option_to_list (if b then None else Some (Step o.dpl)))) p a q (dpl_code o.dpl) m r s t
+after_step true w o p a q m r s t e c = record {
+  is_p = c.is_p; is_alu = c.is_alu; is_acc = c.is_acc; is_dpl = c.is_dpl ∙ sym (equal_from (dpl_code o.dpl) 0 e); is_dphm = c.is_dphm;
+  is_rpdec = c.is_rpdec; is_src = c.is_src; is_dst = c.is_dst;
+}
+after_step false w o p a q m r s t e c = record {
+  is_p = c.is_p; is_alu = c.is_alu; is_acc = c.is_acc; is_dpl = refl; is_dphm = c.is_dphm; is_rpdec = c.is_rpdec; is_src = c.is_src; is_dst = c.is_dst;
+}
+
+after_modify : (b : Bool) (w o : OpWord) (p a q d r s t : ℕ) → no_modify o ≡ b → Codes w p a q d 0 r s t
+    → Codes (with_clauses w (option_to_list (if b then None else Some (Modify o.dphm)))) p a q d o.dphm.value r s t
+after_modify true w o p a q d r s t e c = record {
+  is_p = c.is_p; is_alu = c.is_alu; is_acc = c.is_acc; is_dpl = c.is_dpl; is_dphm = c.is_dphm ∙ sym (equal_from o.dphm.value 0 e);
+  is_rpdec = c.is_rpdec; is_src = c.is_src; is_dst = c.is_dst;
+}
+after_modify false w o p a q d r s t e c = record {
+  is_p = c.is_p; is_alu = c.is_alu; is_acc = c.is_acc; is_dpl = c.is_dpl; is_dphm = refl; is_rpdec = c.is_rpdec; is_src = c.is_src; is_dst = c.is_dst;
+}
+
+after_lower : (b : Bool) (w : OpWord) (p a q d m s t : ℕ) → Codes w p a q d m 0 s t
+    → Codes (with_clauses w (option_to_list (if b then Some Lower else None) ++ [])) p a q d m (bit b) s t
+after_lower true w p a q d m s t c = record {
+  is_p = c.is_p; is_alu = c.is_alu; is_acc = c.is_acc; is_dpl = c.is_dpl; is_dphm = c.is_dphm; is_rpdec = refl; is_src = c.is_src; is_dst = c.is_dst;
+}
+after_lower false w p a q d m s t c = c
+
+empty_codes : Codes empty_word 0 0 0 0 0 0 0 0
+empty_codes = record {
+  is_p = refl; is_alu = refl; is_acc = refl; is_dpl = refl; is_dphm = refl; is_rpdec = refl; is_src = refl; is_dst = refl;
+}
+
+split_off : (w : OpWord) (first second : List Clause) (p a q d m r s t : ℕ) → Codes (with_clauses (with_clauses w first) second) p a q d m r s t
+    → Codes (with_clauses w (first ++ second)) p a q d m r s t
+split_off w first second p a q d m r s t c = subst (λ (v : OpWord). Codes v p a q d m r s t) (sym (with_append w first second)) c
+
+-- the clauses that aren't left out make the word
+pub listed_makes : (o : OpWord) → fields (with_clauses empty_word (listed o)) ≡ fields o
+listed_makes o =
+    let w1 = with_clauses empty_word (option_to_list (compute_of o)) in
+    let c1 = after_compute (no_compute o) empty_word o 0 0 0 0 0 refl empty_codes in
+    let w2 = with_clauses w1 (option_to_list (move_of o)) in
+    let c2 = after_move (no_move o) w1 o (p_code o.p) (alu_code o.alu) (acc_code o.acc) 0 0 0 refl c1 in
+    let w3 = with_clauses w2 (option_to_list (step_of o)) in
+    let c3 = after_step (no_step o) w2 o (p_code o.p) (alu_code o.alu) (acc_code o.acc) 0 0 (src_code o.src) (dst_code o.dst) refl c2 in
+    let w4 = with_clauses w3 (option_to_list (modify_of o)) in
+    let c4 = after_modify (no_modify o) w3 o (p_code o.p) (alu_code o.alu) (acc_code o.acc) (dpl_code o.dpl) 0 (src_code o.src) (dst_code o.dst) refl c3 in
+    let c5 = after_lower o.rpdec w4 (p_code o.p) (alu_code o.alu) (acc_code o.acc) (dpl_code o.dpl) o.dphm.value (src_code o.src) (dst_code o.dst) c4 in
+    sum_codes (with_clauses empty_word (listed o)) o
+    (split_off empty_word (option_to_list (compute_of o)) (from_move o) _ _ _ _ _ _ _ _
+      (split_off w1 (option_to_list (move_of o)) (from_step o) _ _ _ _ _ _ _ _
+        (split_off w2 (option_to_list (step_of o)) (from_modify o) _ _ _ _ _ _ _ _
+          (split_off w3 (option_to_list (modify_of o)) (from_lower o) _ _ _ _ _ _ _ _ c5))))

@@ -5,3 +5,7 @@ pub mod Parts
 pub mod Grammar
 pub mod Words
 pub mod Clauses
+pub mod Spelled
+pub mod Entries
+pub mod Placed
+pub mod Listed
