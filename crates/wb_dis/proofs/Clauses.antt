@@ -1,11 +1,9 @@
 -- The clauses of an operation, as its canonical line spells them and as the grammar reads them.
-use Rattle.std.proofs.Common.{◌≡◌, ◌≢◌, ℕ, ◌+◌, ◌*◌, ◌^◌, ◌<◌, ◌≤◌, ◌==◌, Bool, true, false, not, if◌then◌else◌, List, [], ◌∷◌, ◌++◌, map, codes, Option, Some, None, refl, sym, ap, ◌∙◌, subst, arith, append_assoc, append-nil, lit≤}
-use Rattle.std.specs.Bool.{IsTrue}
+use Rattle.std.proofs.Common.{◌≡◌, ◌≢◌, ℕ, ◌+◌, ◌<◌, ◌≤◌, ◌==◌, Bool, true, false, not, if◌then◌else◌, List, [], ◌∷◌, ◌++◌, map, codes, Option, Some, None, refl, sym, ap, ◌∙◌, subst, arith, append_assoc, append-nil, lit≤}
 use Rattle.std.specs.Char.{digit_char}
-use Rattle.std.specs.List.{flat_map, join_by}
+use Rattle.std.specs.List.{join_by}
 use Rattle.std.specs.Option.{option_to_list}
 use Rattle.std.proofs.lemmas.Bool.Decides.{nat_tests}
-use Rattle.std.proofs.lemmas.Grind.{common_steps}
 use Rattle.wb_lex.specs.Characters.{is_word_character}
 use Rattle.wb_lex.specs.Pieces.{begins, bytes_of}
 use Rattle.wb_syntax.specs.Clause.{sort_of, with_clause, with_clauses, empty_word}
@@ -19,7 +17,7 @@ use Rattle.wb_word.specs.declared.codes.Dpl.TheVariants.{DpNop, DpInc, DpDec, Dp
 use Rattle.wb_word.specs.declared.words.OpWord.{OpWord}
 use Rattle.wb_dis.specs.Line as line
 use Rattle.wb_dis.proofs.Grammar.{clause_parts, joined, operation_parts, IsTold, AreTold, Ascends}
-use Rattle.wb_dis.proofs.Parts.{Part, Named, Numbered, Marked, Gap, piece_of, text_of, IsPart, AreParts}
+use Rattle.wb_dis.proofs.Parts.{Part, Named, Marked, Gap, piece_of, text_of, IsPart, AreParts}
 use Rattle.wb_dis.proofs.Words.{IsName, alu_named, acc_named, p_named, src_named, dst_named, dpl_named, modify_named}
 
 abbrev pub compute_of : OpWord → Option Clause
@@ -83,9 +81,9 @@ texts o =
     one_text (alu_code o.alu + p_code o.p + acc_code o.acc == 0) (alu_name o.alu ++ codes " " ++ acc_name o.acc ++ codes "," ++ p_name o.p)
     (Compute o.alu o.acc o.p) _ _ (simp (append_assoc, append-nil))
     (one_text (src_code o.src + dst_code o.dst == 0) (codes "mov " ++ dst_name o.dst ++ codes "," ++ src_name o.src)
-      (Move o.dst o.src) _ _ (simp (append_assoc, append-nil))
-      (one_text _ _ (Step o.dpl) _ _ (sym (append-nil (dpl_name o.dpl)))
-        (one_text _ _ (Modify o.dphm) _ _ refl (last_text o.rpdec))))
+    (Move o.dst o.src) _ _ (simp (append_assoc, append-nil))
+    (one_text _ _ (Step o.dpl) _ _ (sym (append-nil (dpl_name o.dpl)))
+    (one_text _ _ (Modify o.dphm) _ _ refl (last_text o.rpdec))))
 
 text_append : (first second : List Part) → text_of (first ++ second) ≡ text_of first ++ text_of second
 text_append [] second = refl
@@ -116,19 +114,32 @@ named_part word rest h apart = ((h.whole, ap not apart), h.named)
 
 parts_append : (first second : List Part) (rest : List ℕ) → AreParts first (text_of second ++ rest) → AreParts second rest → AreParts (first ++ second) rest
 parts_append [] second rest h k = k
-parts_append (part ∷ first) second rest h k =
-    (subst (λ (t : List ℕ). IsPart part t) (sym (ap (λ (t : List ℕ). t ++ rest) (text_append first second) ∙ append_assoc (text_of first) (text_of second) rest)) h.0,
-      parts_append first second rest h.1 k)
+parts_append (part ∷ first) second rest h k = (
+  subst (λ (t : List ℕ). IsPart part t) (sym (ap (λ (t : List ℕ). t ++ rest) (text_append first second) ∙ append_assoc (text_of first) (text_of second) rest)) h.0,
+  parts_append first second rest h.1 k,
+)
 
 clause_valid : (c : Clause) (rest : List ℕ) → IsApart rest → AreParts (clause_parts c) rest
-clause_valid (Compute alu acc p) rest apart =
-    (named_part (alu_name alu) (text_of (Gap ∷ Named (acc_name acc) ∷ Marked 44 ∷ Named (p_name p) ∷ []) ++ rest) (alu_named alu) refl,
-      (tt, (named_part (acc_name acc) (text_of (Marked 44 ∷ Named (p_name p) ∷ []) ++ rest) (acc_named acc) refl,
-          (refl, (named_part (p_name p) (text_of [] ++ rest) (p_named p) apart, tt)))))
-clause_valid (Move dst src) rest apart =
-    (named_part (codes "mov") (text_of (Gap ∷ Named (dst_name dst) ∷ Marked 44 ∷ Named (src_name src) ∷ []) ++ rest) (record { whole = refl; named = refl }) refl,
-      (tt, (named_part (dst_name dst) (text_of (Marked 44 ∷ Named (src_name src) ∷ []) ++ rest) (dst_named dst) refl,
-          (refl, (named_part (src_name src) (text_of [] ++ rest) (src_named src) apart, tt)))))
+clause_valid (Compute alu acc p) rest apart = (
+  named_part (alu_name alu) (text_of (Gap ∷ Named (acc_name acc) ∷ Marked 44 ∷ Named (p_name p) ∷ []) ++ rest) (alu_named alu) refl,
+  (
+    tt,
+    (
+      named_part (acc_name acc) (text_of (Marked 44 ∷ Named (p_name p) ∷ []) ++ rest) (acc_named acc) refl,
+      (refl, (named_part (p_name p) (text_of [] ++ rest) (p_named p) apart, tt)),
+    ),
+  ),
+)
+clause_valid (Move dst src) rest apart = (
+  named_part (codes "mov") (text_of (Gap ∷ Named (dst_name dst) ∷ Marked 44 ∷ Named (src_name src) ∷ []) ++ rest) (record { whole = refl; named = refl }) refl,
+  (
+    tt,
+    (
+      named_part (dst_name dst) (text_of (Marked 44 ∷ Named (src_name src) ∷ []) ++ rest) (dst_named dst) refl,
+      (refl, (named_part (src_name src) (text_of [] ++ rest) (src_named src) apart, tt)),
+    ),
+  ),
+)
 clause_valid (Step dpl) rest apart = (named_part (dpl_name dpl) rest (dpl_named dpl) apart, tt)
 clause_valid (Modify nibble) rest apart = (named_part (109 ∷ digit_char nibble.value ∷ []) rest (modify_named nibble.value nibble.in_range) apart, tt)
 clause_valid Lower rest apart = (named_part (codes "rpdec") rest (record { whole = refl; named = refl }) apart, tt)
@@ -165,8 +176,8 @@ pub listed_told : (o : OpWord) → AreTold (listed o)
 listed_told o =
     told_more (no_compute o) (Compute o.alu o.acc o.p) (from_move o) (λ h. tt)
     (told_more (no_move o) (Move o.dst o.src) (from_step o) (λ h. tt)
-      (told_more (no_step o) (Step o.dpl) (from_modify o) (step_told o.dpl)
-        (told_more (no_modify o) (Modify o.dphm) (from_lower o) (modify_told o.dphm.value) (told_last o.rpdec))))
+    (told_more (no_step o) (Step o.dpl) (from_modify o) (step_told o.dpl)
+    (told_more (no_modify o) (Modify o.dphm) (from_lower o) (modify_told o.dphm.value) (told_last o.rpdec))))
 
 -- and each sort stands once
 rises : (least more : ℕ) (cs : List Clause) → least ≤ more → Ascends more cs → Ascends least cs
@@ -185,7 +196,7 @@ pub listed_ascends : (o : OpWord) → Ascends 0 (listed o)
 listed_ascends o =
     ascends_more (no_compute o) (Compute o.alu o.acc o.p) (from_move o)
     (ascends_more (no_move o) (Move o.dst o.src) (from_step o)
-      (ascends_more (no_step o) (Step o.dpl) (from_modify o) (ascends_more (no_modify o) (Modify o.dphm) (from_lower o) (ascends_last o.rpdec))))
+    (ascends_more (no_step o) (Step o.dpl) (from_modify o) (ascends_more (no_modify o) (Modify o.dphm) (from_lower o) (ascends_last o.rpdec))))
 
 -- the codes of the fields of a word
 record Codes (w : OpWord) (p alu acc dpl dphm rpdec src dst : ℕ) : Type 0 where
@@ -220,11 +231,24 @@ after_compute : (b : Bool) (w o : OpWord) (d m r s t : ℕ) → no_compute o ≡
 after_compute true w o d m r s t e c =
     let zeros = zero_sum (alu_code o.alu) (p_code o.p) (acc_code o.acc) e in
     record {
-      is_p = c.is_p ∙ zeros.1; is_alu = c.is_alu ∙ zeros.0; is_acc = c.is_acc ∙ zeros.2;
-      is_dpl = c.is_dpl; is_dphm = c.is_dphm; is_rpdec = c.is_rpdec; is_src = c.is_src; is_dst = c.is_dst;
+      is_p = c.is_p ∙ zeros.1;
+      is_alu = c.is_alu ∙ zeros.0;
+      is_acc = c.is_acc ∙ zeros.2;
+      is_dpl = c.is_dpl;
+      is_dphm = c.is_dphm;
+      is_rpdec = c.is_rpdec;
+      is_src = c.is_src;
+      is_dst = c.is_dst;
     }
 after_compute false w o d m r s t e c = record {
-  is_p = refl; is_alu = refl; is_acc = refl; is_dpl = c.is_dpl; is_dphm = c.is_dphm; is_rpdec = c.is_rpdec; is_src = c.is_src; is_dst = c.is_dst;
+  is_p = refl;
+  is_alu = refl;
+  is_acc = refl;
+  is_dpl = c.is_dpl;
+  is_dphm = c.is_dphm;
+  is_rpdec = c.is_rpdec;
+  is_src = c.is_src;
+  is_dst = c.is_dst;
 }
 
 after_move : (b : Bool) (w o : OpWord) (p a q d m r : ℕ) → no_move o ≡ b → Codes w p a q d m r 0 0
@@ -232,43 +256,96 @@ after_move : (b : Bool) (w o : OpWord) (p a q d m r : ℕ) → no_move o ≡ b �
 after_move true w o p a q d m r e c =
     let zeros = zero_pair (src_code o.src) (dst_code o.dst) e in
     record {
-      is_p = c.is_p; is_alu = c.is_alu; is_acc = c.is_acc; is_dpl = c.is_dpl; is_dphm = c.is_dphm; is_rpdec = c.is_rpdec;
-      is_src = c.is_src ∙ zeros.0; is_dst = c.is_dst ∙ zeros.1;
+      is_p = c.is_p;
+      is_alu = c.is_alu;
+      is_acc = c.is_acc;
+      is_dpl = c.is_dpl;
+      is_dphm = c.is_dphm;
+      is_rpdec = c.is_rpdec;
+      is_src = c.is_src ∙ zeros.0;
+      is_dst = c.is_dst ∙ zeros.1;
     }
 after_move false w o p a q d m r e c = record {
-  is_p = c.is_p; is_alu = c.is_alu; is_acc = c.is_acc; is_dpl = c.is_dpl; is_dphm = c.is_dphm; is_rpdec = c.is_rpdec; is_src = refl; is_dst = refl;
+  is_p = c.is_p;
+  is_alu = c.is_alu;
+  is_acc = c.is_acc;
+  is_dpl = c.is_dpl;
+  is_dphm = c.is_dphm;
+  is_rpdec = c.is_rpdec;
+  is_src = refl;
+  is_dst = refl;
 }
 
 after_step : (b : Bool) (w o : OpWord) (p a q m r s t : ℕ) → no_step o ≡ b → Codes w p a q 0 m r s t
     → Codes (with_clauses w (option_to_list (if b then None else Some (Step o.dpl)))) p a q (dpl_code o.dpl) m r s t
 after_step true w o p a q m r s t e c = record {
-  is_p = c.is_p; is_alu = c.is_alu; is_acc = c.is_acc; is_dpl = c.is_dpl ∙ sym (equal_from (dpl_code o.dpl) 0 e); is_dphm = c.is_dphm;
-  is_rpdec = c.is_rpdec; is_src = c.is_src; is_dst = c.is_dst;
+  is_p = c.is_p;
+  is_alu = c.is_alu;
+  is_acc = c.is_acc;
+  is_dpl = c.is_dpl ∙ sym (equal_from (dpl_code o.dpl) 0 e);
+  is_dphm = c.is_dphm;
+  is_rpdec = c.is_rpdec;
+  is_src = c.is_src;
+  is_dst = c.is_dst;
 }
 after_step false w o p a q m r s t e c = record {
-  is_p = c.is_p; is_alu = c.is_alu; is_acc = c.is_acc; is_dpl = refl; is_dphm = c.is_dphm; is_rpdec = c.is_rpdec; is_src = c.is_src; is_dst = c.is_dst;
+  is_p = c.is_p;
+  is_alu = c.is_alu;
+  is_acc = c.is_acc;
+  is_dpl = refl;
+  is_dphm = c.is_dphm;
+  is_rpdec = c.is_rpdec;
+  is_src = c.is_src;
+  is_dst = c.is_dst;
 }
 
 after_modify : (b : Bool) (w o : OpWord) (p a q d r s t : ℕ) → no_modify o ≡ b → Codes w p a q d 0 r s t
     → Codes (with_clauses w (option_to_list (if b then None else Some (Modify o.dphm)))) p a q d o.dphm.value r s t
 after_modify true w o p a q d r s t e c = record {
-  is_p = c.is_p; is_alu = c.is_alu; is_acc = c.is_acc; is_dpl = c.is_dpl; is_dphm = c.is_dphm ∙ sym (equal_from o.dphm.value 0 e);
-  is_rpdec = c.is_rpdec; is_src = c.is_src; is_dst = c.is_dst;
+  is_p = c.is_p;
+  is_alu = c.is_alu;
+  is_acc = c.is_acc;
+  is_dpl = c.is_dpl;
+  is_dphm = c.is_dphm ∙ sym (equal_from o.dphm.value 0 e);
+  is_rpdec = c.is_rpdec;
+  is_src = c.is_src;
+  is_dst = c.is_dst;
 }
 after_modify false w o p a q d r s t e c = record {
-  is_p = c.is_p; is_alu = c.is_alu; is_acc = c.is_acc; is_dpl = c.is_dpl; is_dphm = refl; is_rpdec = c.is_rpdec; is_src = c.is_src; is_dst = c.is_dst;
+  is_p = c.is_p;
+  is_alu = c.is_alu;
+  is_acc = c.is_acc;
+  is_dpl = c.is_dpl;
+  is_dphm = refl;
+  is_rpdec = c.is_rpdec;
+  is_src = c.is_src;
+  is_dst = c.is_dst;
 }
 
 after_lower : (b : Bool) (w : OpWord) (p a q d m s t : ℕ) → Codes w p a q d m 0 s t
     → Codes (with_clauses w (option_to_list (if b then Some Lower else None) ++ [])) p a q d m (bit b) s t
 after_lower true w p a q d m s t c = record {
-  is_p = c.is_p; is_alu = c.is_alu; is_acc = c.is_acc; is_dpl = c.is_dpl; is_dphm = c.is_dphm; is_rpdec = refl; is_src = c.is_src; is_dst = c.is_dst;
+  is_p = c.is_p;
+  is_alu = c.is_alu;
+  is_acc = c.is_acc;
+  is_dpl = c.is_dpl;
+  is_dphm = c.is_dphm;
+  is_rpdec = refl;
+  is_src = c.is_src;
+  is_dst = c.is_dst;
 }
 after_lower false w p a q d m s t c = c
 
 empty_codes : Codes empty_word 0 0 0 0 0 0 0 0
 empty_codes = record {
-  is_p = refl; is_alu = refl; is_acc = refl; is_dpl = refl; is_dphm = refl; is_rpdec = refl; is_src = refl; is_dst = refl;
+  is_p = refl;
+  is_alu = refl;
+  is_acc = refl;
+  is_dpl = refl;
+  is_dphm = refl;
+  is_rpdec = refl;
+  is_src = refl;
+  is_dst = refl;
 }
 
 split_off : (w : OpWord) (first second : List Clause) (p a q d m r s t : ℕ) → Codes (with_clauses (with_clauses w first) second) p a q d m r s t
@@ -289,6 +366,6 @@ listed_makes o =
     let c5 = after_lower o.rpdec w4 (p_code o.p) (alu_code o.alu) (acc_code o.acc) (dpl_code o.dpl) o.dphm.value (src_code o.src) (dst_code o.dst) c4 in
     sum_codes (with_clauses empty_word (listed o)) o
     (split_off empty_word (option_to_list (compute_of o)) (from_move o) _ _ _ _ _ _ _ _
-      (split_off w1 (option_to_list (move_of o)) (from_step o) _ _ _ _ _ _ _ _
-        (split_off w2 (option_to_list (step_of o)) (from_modify o) _ _ _ _ _ _ _ _
-          (split_off w3 (option_to_list (modify_of o)) (from_lower o) _ _ _ _ _ _ _ _ c5))))
+    (split_off w1 (option_to_list (move_of o)) (from_step o) _ _ _ _ _ _ _ _
+    (split_off w2 (option_to_list (step_of o)) (from_modify o) _ _ _ _ _ _ _ _
+    (split_off w3 (option_to_list (modify_of o)) (from_lower o) _ _ _ _ _ _ _ _ c5))))

@@ -1,19 +1,19 @@
 -- The lines of a listing, one after the other: their tokens and their statements.
-use Rattle.std.proofs.Common.{◌≡◌, ℕ, ◌+◌, ◌==◌, Bool, true, false, not, List, [], ◌∷◌, ◌++◌, length, Option, None, refl, sym, ap, ◌∙◌, subst, arith, append_assoc, append-nil}
-use Rattle.std.specs.List.{list_any, filter}
+use Rattle.std.proofs.Common.{◌≡◌, ℕ, ◌==◌, true, false, not, List, [], ◌∷◌, ◌++◌, None, refl, sym, ap, ◌∙◌, subst, append_assoc, append-nil}
+use Rattle.std.specs.List.{list_any}
 use Rattle.wb_lex.specs.declared.tokens.Token.{Token}
 use Rattle.wb_lex.specs.declared.tokens.TokenKind.TheVariants as kind
-use Rattle.wb_lex.specs.Pieces.{Piece, Blank, Comment, Feed, bytes_of, IsCut}
+use Rattle.wb_lex.specs.Pieces.{Piece, Blank, Comment, Feed, IsCut}
 use Rattle.wb_lex.specs.Tokens.{AreNarrow, word_kind, token_of, tokens_from}
 use Rattle.wb_syntax.specs.Separators.{parts, is_separator}
 use Rattle.wb_syntax.specs.Source.{is_filled, lines_of, AreStatements}
-use Rattle.wb_syntax.specs.Statement.{IsBody, IsStatement, line_number}
+use Rattle.wb_syntax.specs.Statement.{IsBody, line_number}
 use Rattle.wb_syntax.specs.declared.separators.Separator.TheVariants.{LineEnd}
 use Rattle.wb_syntax.specs.declared.statements.Body.{Body}
 use Rattle.wb_syntax.specs.declared.statements.Statement.{Statement}
 use Rattle.wb_dis.proofs.Clauses.{IsApart}
-use Rattle.wb_dis.proofs.Grammar.{Quiet, shown_uncut, split_cut}
-use Rattle.wb_dis.proofs.Parts.{Part, Named, Numbered, Marked, Gap, Sign, Name, Number, Sole, piece_of, text_of, pieces_of, AreParts, signs_of, Show, parts_cut, parts_narrow, parts_show, cut_append, narrow_append}
+use Rattle.wb_dis.proofs.Grammar.{IsCalm, calm_shown, Quiet, shown_uncut, split_cut}
+use Rattle.wb_dis.proofs.Parts.{Part, Named, Numbered, Marked, Gap, Sign, Name, Number, Sole, text_of, pieces_of, AreParts, signs_of, Show, parts_cut, parts_narrow, parts_show, cut_append, narrow_append}
 
 -- a line of a listing: its parts, its comment, and what it says
 pub record Entry : Type 0 where
@@ -24,6 +24,7 @@ pub record Entry : Type 0 where
   pub closed : list_any (λ byte. byte == 10) comment ≡ false
   pub says : (source : List ℕ) (tokens : List Token) → Show source tokens (signs_of these) → IsBody source tokens said
   pub filled : (source : List ℕ) (tokens : List Token) → Show source tokens (signs_of these) → is_filled tokens ≡ true
+  pub calm : IsCalm (signs_of these)
 
 abbrev pub tail_text : List ℕ → List ℕ
 tail_text comment = 32 ∷ 32 ∷ 59 ∷ (comment ++ 10 ∷ [])
@@ -49,11 +50,22 @@ entries_cut (e ∷ es) =
     let rest = tail_text e.comment ++ entries_text es in
     cut_append (entries_text (e ∷ es)) rest [] (pieces_of e.these) (tail_pieces e.comment (entries_pieces es))
     (subst (λ (t : List ℕ). IsCut t (pieces_of e.these) rest) (sym (append_assoc (text_of e.these) (tail_text e.comment) (entries_text es)))
-      (parts_cut e.these rest (e.valid rest refl)))
-    (32 ∷ 59 ∷ ((e.comment ++ 10 ∷ []) ++ entries_text es), refl, refl,
-      (59 ∷ ((e.comment ++ 10 ∷ []) ++ entries_text es), refl, refl,
-        (10 ∷ entries_text es, ap (λ (t : List ℕ). 59 ∷ t) (append_assoc e.comment (10 ∷ []) (entries_text es)), (ap not e.closed, refl),
-          (entries_text es, refl, tt, entries_cut es))))
+    (parts_cut e.these rest (e.valid rest refl))) (
+      32 ∷ 59 ∷ ((e.comment ++ 10 ∷ []) ++ entries_text es),
+      refl,
+      refl,
+      (
+        59 ∷ ((e.comment ++ 10 ∷ []) ++ entries_text es),
+        refl,
+        refl,
+        (
+          10 ∷ entries_text es,
+          ap (λ (t : List ℕ). 59 ∷ t) (append_assoc e.comment (10 ∷ []) (entries_text es)),
+          (ap not e.closed, refl),
+          (entries_text es, refl, tt, entries_cut es),
+        ),
+      ),
+    )
 
 pub entries_narrow : (es : List Entry) → AreNarrow (entries_pieces es)
 entries_narrow [] = tt
@@ -93,7 +105,7 @@ entry_tokens : (before : List ℕ) (e : Entry) (es : List Entry)
 entry_tokens before e es =
     tokens_parts e.these before (tail_pieces e.comment (entries_pieces es))
     ∙ ap (λ (b : List ℕ). line_tokens before e ++ end_token (before ++ text_of e.these) e.comment ∷ tokens_from b (entries_pieces es))
-      (tail_before (before ++ text_of e.these) e.comment ∙ append_assoc before (text_of e.these) (tail_text e.comment))
+    (tail_before (before ++ text_of e.these) e.comment ∙ append_assoc before (text_of e.these) (tail_text e.comment))
 
 abbrev pub statement_of : List ℕ → Entry → Statement
 statement_of before e = record { line = line_number (line_tokens before e); label = None; body = e.said }
@@ -121,14 +133,15 @@ entries_say text before (entry ∷ es) e =
     let end = end_token (before ++ text_of entry.these) entry.comment in
     let rest = tokens_from (before ++ entry_text entry) (entries_pieces es) in
     let whole : text ≡ before ++ (text_of entry.these ++ (tail_text entry.comment ++ entries_text es)) =
-      e ∙ ap (λ (t : List ℕ). before ++ t) (append_assoc (text_of entry.these) (tail_text entry.comment) (entries_text es)) in
+    e ∙ ap (λ (t : List ℕ). before ++ t) (append_assoc (text_of entry.these) (tail_text entry.comment) (entries_text es)) in
     let shows : Show text line (signs_of entry.these) =
-      parts_show entry.these text before (tail_text entry.comment ++ entries_text es) whole (entry.valid (tail_text entry.comment ++ entries_text es) refl) in
+    parts_show entry.these text before (tail_text entry.comment ++ entries_text es) whole (entry.valid (tail_text entry.comment ++ entries_text es) refl) in
     let cut : parts LineEnd (line ++ end ∷ rest) ≡ line ∷ parts LineEnd rest =
-      split_cut (λ token. is_separator LineEnd token.kind) line end rest
-      (shown_uncut LineEnd text line (signs_of entry.these) shows (quiet_line (signs_of entry.these))) refl in
+    split_cut (λ token. is_separator LineEnd token.kind) line end rest
+    (shown_uncut LineEnd text line (signs_of entry.these) shows (quiet_line (signs_of entry.these))) refl in
     let lines : lines_of (tokens_from before (entries_pieces (entry ∷ es))) ≡ line ∷ lines_of rest =
-      ap lines_of (entry_tokens before entry es) ∙ first_line line end rest (entry.filled text line shows) refl cut in
-    subst (λ (ls : List (List Token)). AreStatements text ls (statements before (entry ∷ es))) (sym lines)
-    (record { number = refl; says = entry.says text line shows },
-      entries_say text (before ++ entry_text entry) es (e ∙ sym (append_assoc before (entry_text entry) (entries_text es))))
+    ap lines_of (entry_tokens before entry es) ∙ first_line line end rest (entry.filled text line shows) refl cut in
+    subst (λ (ls : List (List Token)). AreStatements text ls (statements before (entry ∷ es))) (sym lines) (
+      record { number = refl; says = (calm_shown text line (signs_of entry.these) entry.calm shows, entry.says text line shows) },
+      entries_say text (before ++ entry_text entry) es (e ∙ sym (append_assoc before (entry_text entry) (entries_text es))),
+    )

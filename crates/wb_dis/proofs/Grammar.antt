@@ -1,32 +1,23 @@
 -- What the tokens of a canonical line say.
-use Rattle.std.proofs.Common.{◌≡◌, ◌≢◌, ℕ, ◌+◌, ◌<◌, ◌≤◌, Bool, true, false, if◌then◌else◌, cond, List, [], ◌∷◌, ◌++◌, length, Option, Some, None, refl, sym, ap, ◌∙◌, subst, arith, codes, lit≤, lit<}
+use Rattle.std.proofs.Common.{◌≡◌, ◌≢◌, ℕ, ◌+◌, ◌<◌, ◌≤◌, Bool, true, false, cond, List, [], ◌∷◌, ◌++◌, refl, sym, ap, ◌∙◌, subst, arith, codes, lit≤}
 use Rattle.std.specs.Char.{digit_char}
-use Rattle.std.specs.List.{slice_split, onto_first, count_by}
-use Rattle.std.specs.Option.{option_to_list}
-use Rattle.std.proofs.lemmas.Grind.{common_steps}
+use Rattle.std.specs.List.{slice_split, onto_first}
 use Rattle.std.proofs.lemmas.List.Splits.{slice_split-cons_yes, slice_split-cons_no}
-use Rattle.wb_word.specs.Names.{p_name, alu_name, acc_name, dpl_name, src_name, dst_name, cond_name}
+use Rattle.wb_word.specs.Names.{p_name, alu_name, acc_name, dpl_name, src_name, dst_name}
 use Rattle.wb_word.specs.declared.codes.Dpl.TheVariants.{DpNop}
-use Rattle.wb_word.specs.declared.codes.Dst.{Dst}
-use Rattle.wb_word.specs.declared.conditions.Cond.{Cond}
-use Rattle.wb_word.specs.declared.words.OpWord.{OpWord}
 use Rattle.wb_lex.specs.declared.tokens.Token.{Token}
 use Rattle.wb_lex.specs.declared.tokens.TokenKind.{TokenKind}
 use Rattle.wb_lex.specs.declared.tokens.TokenKind.TheVariants as kind
 use Rattle.wb_syntax.specs.Clause.{IsClause, AreClauses, AreFields, AreApart, Lacks, sort_of, with_clauses, empty_word}
-use Rattle.wb_syntax.specs.Expression.{IsExpression, is_operator, term, atom, number}
-use Rattle.wb_syntax.specs.Mnemonic.{mnemonic_name}
+use Rattle.wb_syntax.specs.Expression.{IsExpression, is_operator, is_mark_kind, has_mark, term, atom, number}
 use Rattle.wb_syntax.specs.Separators.{is_separator, parts}
 use Rattle.wb_syntax.specs.Spelling.{Says}
-use Rattle.wb_syntax.specs.Statement.{IsWord, IsBody, IsInstruction, IsLabelled, IsStatement, line_number}
+use Rattle.wb_syntax.specs.Statement.{IsWord}
 use Rattle.wb_syntax.specs.Tree as tree
 use Rattle.wb_syntax.specs.declared.clauses.Clause.{Clause}
 use Rattle.wb_syntax.specs.declared.clauses.Clause.TheVariants.{Compute, Move, Step, Modify, Lower}
-use Rattle.wb_syntax.specs.declared.mnemonics.Mnemonic.TheVariants as mnemonic
 use Rattle.wb_syntax.specs.declared.separators.Separator.{Separator}
-use Rattle.wb_syntax.specs.declared.separators.Separator.TheVariants.{Bar, Comma}
-use Rattle.wb_syntax.specs.declared.statements.Body.{Body}
-use Rattle.wb_syntax.specs.declared.statements.Body.TheVariants as body
+use Rattle.wb_syntax.specs.declared.separators.Separator.TheVariants.{Bar}
 use Rattle.wb_dis.proofs.Parts.{Part, Named, Numbered, Marked, Gap, Sign, Name, Number, Sole, signs_of, Shows, Show}
 
 -- a list that no separator cuts
@@ -124,11 +115,23 @@ IsTold (Modify nibble) = 0 < nibble.value
 IsTold _ = Unit {0}
 
 clause_shown : (text : List ℕ) (tokens : List Token) (clause : Clause) → IsTold clause → Show text tokens (clause_signs clause) → IsClause text tokens clause
-clause_shown text tokens (Compute alu acc p) told h = four text tokens _ _ _ _ h
-clause_shown text tokens (Move dst src) told h = four text tokens _ _ _ _ h
-clause_shown text tokens (Step dpl) told h = (told, one text tokens _ h)
-clause_shown text tokens (Modify nibble) told h = (told, one text tokens _ h)
-clause_shown text tokens Lower told h = one text tokens _ h
+clause_shown text tokens (Compute alu acc p) told h =
+    let f = four text tokens (Name (alu_name alu)) (Name (acc_name acc)) (Sole 44) (Name (p_name p)) h in
+    subst (λ (ts : List Token). IsClause text ts (Compute alu acc p)) (sym f.4)
+    (f.7, (alu_name alu, acc_name acc, p_name p, f.5, f.6, f.8, (refl, refl, refl)))
+clause_shown text tokens (Move dst src) told h =
+    let f = four text tokens (Name (codes "mov")) (Name (dst_name dst)) (Sole 44) (Name (src_name src)) h in
+    subst (λ (ts : List Token). IsClause text ts (Move dst src)) (sym f.4)
+    (f.7, (codes "mov", dst_name dst, src_name src, f.5, f.6, f.8, (refl, refl, refl)))
+clause_shown text tokens (Step dpl) told h =
+    let f = one text tokens (Name (dpl_name dpl)) h in
+    subst (λ (ts : List Token). IsClause text ts (Step dpl)) (sym f.1) (dpl_name dpl, f.2, (told, refl))
+clause_shown text tokens (Modify nibble) told h =
+    let f = one text tokens (Name (109 ∷ digit_char nibble.value ∷ [])) h in
+    subst (λ (ts : List Token). IsClause text ts (Modify nibble)) (sym f.1) (109 ∷ digit_char nibble.value ∷ [], f.2, (told, refl))
+clause_shown text tokens Lower told h =
+    let f = one text tokens (Name (codes "rpdec")) h in
+    subst (λ (ts : List Token). IsClause text ts Lower) (sym f.1) (codes "rpdec", f.2, refl)
 
 clause_quiet : (clause : Clause) → Quiet Bar (clause_signs clause)
 clause_quiet (Compute alu acc p) = (refl, (refl, (refl, (refl, tt))))
@@ -148,7 +151,7 @@ first_clause : (text : List ℕ) (front : List Token) (bar : Token) (rest : List
 first_clause text front bar rest clause clauses told h mark others =
     subst (λ (cut : List (List Token)). AreClauses text cut (clause ∷ clauses))
     (sym (split_cut (λ token. is_separator Bar token.kind) front bar rest (shown_uncut Bar text front (clause_signs clause) h (clause_quiet clause))
-        (ap (λ kind. is_separator Bar kind) mark)))
+    (ap (λ kind. is_separator Bar kind) mark)))
     (clause_shown text front clause told h, others)
 
 -- the tokens after a bar
@@ -175,7 +178,7 @@ clauses_shown text tokens clause (next ∷ more) told h =
     let after = after_bar text cut.back (signs_of (joined next more)) cut.shows_second in
     subst (λ (t : List Token). AreClauses text (parts Bar t) (clause ∷ next ∷ more)) (sym (cut.whole ∙ ap (λ t. cut.front ++ t) after.whole))
     (first_clause text cut.front after.bar after.rest clause (next ∷ more) told.0 cut.shows_first after.mark
-      (clauses_shown text after.rest next more told.1 after.shows))
+    (clauses_shown text after.rest next more told.1 after.shows))
 
 -- the whole of a line's word and clauses
 abbrev pub operation_parts : List ℕ → List Clause → List Part
@@ -242,3 +245,30 @@ number_shown text (token ∷ []) n h = record {
   few = few_one (is_operator token);
 }
 number_shown text (token ∷ next ∷ tokens) n h = absurd h.1
+
+-- the second sign is no colon
+abbrev pub IsCalm : List Sign → Type 0
+IsCalm [] = Unit {0}
+IsCalm (first ∷ []) = Unit {0}
+IsCalm (first ∷ second ∷ signs) = is_mark_kind 58 (kind_of second) ≡ false
+
+-- so the line has no label
+pub calm_shown : (text : List ℕ) (tokens : List Token) (signs : List Sign) → IsCalm signs → Show text tokens signs → has_mark tokens 1 58 ≡ false
+calm_shown text [] signs calm h = refl
+calm_shown text (first ∷ []) signs calm h = refl
+calm_shown text (first ∷ second ∷ tokens) [] calm h = absurd h
+calm_shown text (first ∷ second ∷ tokens) (a ∷ []) calm h = absurd h.1
+calm_shown text (first ∷ second ∷ tokens) (a ∷ b ∷ signs) calm h = ap (λ kind. is_mark_kind 58 kind) (shown_kind text second b h.1.0) ∙ calm
+
+pub operation_calm : (name : List ℕ) (clauses : List Clause) → IsCalm (signs_of (operation_parts name clauses))
+operation_calm name [] = tt
+operation_calm name (Compute alu acc p ∷ []) = refl
+operation_calm name (Move dst src ∷ []) = refl
+operation_calm name (Step dpl ∷ []) = refl
+operation_calm name (Modify nibble ∷ []) = refl
+operation_calm name (Lower ∷ []) = refl
+operation_calm name (Compute alu acc p ∷ next ∷ more) = refl
+operation_calm name (Move dst src ∷ next ∷ more) = refl
+operation_calm name (Step dpl ∷ next ∷ more) = refl
+operation_calm name (Modify nibble ∷ next ∷ more) = refl
+operation_calm name (Lower ∷ next ∷ more) = refl

@@ -1,15 +1,13 @@
 -- A listing assembles to the image that it lists.
-use Rattle.std.proofs.Common.{◌≡◌, ℕ, zero, suc, ◌+◌, ◌^◌, ◌<◌, ◌≤◌, List, [], ◌∷◌, ◌++◌, length, codes, refl, sym, ap, ◌∙◌, subst, arith, append_assoc, append-nil, get_or, Bool, false, lit≤}
+use Rattle.std.proofs.Common.{◌≡◌, ℕ, zero, suc, ◌+◌, ◌^◌, ◌<◌, ◌≤◌, List, [], ◌∷◌, ◌++◌, length, codes, refl, sym, ap, ◌∙◌, subst, arith, append_assoc, get_or, replicate, false}
 use Rattle.std.specs.List.{slice_index}
-use Rattle.std.proofs.lemmas.Grind.{common_steps}
-use Rattle.std.proofs.lemmas.List.{length-replicate, get_or-replicate}
+use Rattle.std.proofs.lemmas.List.{length-replicate}
 use Rattle.wb_rom.specs.declared.images.Image.{Image}
 use Rattle.wb_word.specs.Encoding.{number, instr_of}
 use Rattle.wb_lex.specs.Tokens.{tokens_from}
 use Rattle.wb_syntax.specs.Source.{IsSource}
-use Rattle.wb_syntax.specs.Statement.{IsBody}
 use Rattle.wb_syntax.specs.declared.statements.Statement.{Statement}
-use Rattle.wb_asm.specs.Assembly.{IsImageOfText, Says, all_names, all_counters, placing_fault, value_fault, zeros}
+use Rattle.wb_asm.specs.Assembly.{IsImageOfText, all_names, zeros}
 use Rattle.wb_asm.specs.Counters.{laid_out}
 use Rattle.wb_asm.specs.Layout.{start}
 use Rattle.wb_asm.specs.Space.{Space, empty}
@@ -17,13 +15,11 @@ use Rattle.wb_asm.specs.Words.{with_words_at}
 use Rattle.wb_dis.specs.Digits.{hex3, hex4, hex6}
 use Rattle.wb_dis.specs.Line as line
 use Rattle.wb_dis.specs.Listing.{program_line, data_line, lines_from, listing}
-use Rattle.wb_dis.proofs.Clauses.{IsApart}
 use Rattle.wb_dis.proofs.Entries.{Entry, entry_text, entries_text, entries_pieces, entries_cut, entries_narrow, entries_say, statements}
-use Rattle.wb_dis.proofs.Grammar as grammar
-use Rattle.wb_dis.proofs.Parts.{Part, Named, Numbered, Gap, text_of, AreParts}
+use Rattle.wb_dis.proofs.Parts.{Named, Numbered, Gap, text_of}
 use Rattle.wb_dis.proofs.Placed.{ArePrograms, AreData, IsFree, datum, programs_placed, programs_drom, data_placed, programs_valued, programs_filled, programs_rest, data_valued, data_rest, data_filled, statements_append, zeros_filled}
 use Rattle.wb_dis.proofs.Spelled.{Line, IsProgramOf, canonical, data_says, data_valid, filled_named}
-use Rattle.wb_dis.proofs.Words.{hex4_number, program_comment, data_comment}
+use Rattle.wb_dis.proofs.Words.{program_comment, data_comment}
 
 -- words of the program memory, each with its instruction
 abbrev pub AreWords : List ℕ → Type 0
@@ -36,8 +32,14 @@ AreHalves (word ∷ words) = (word < 2 ^ 16) × AreHalves words
 
 program_entry : (at word : ℕ) → Line word (line.canonical_line word) → Entry
 program_entry at word l = record {
-  these = l.these; comment = 32 ∷ (hex3 at ++ 32 ∷ hex6 word); said = l.said;
-  valid = l.valid; closed = program_comment at word; says = l.says; filled = l.filled;
+  these = l.these;
+  comment = 32 ∷ (hex3 at ++ 32 ∷ hex6 word);
+  said = l.said;
+  valid = l.valid;
+  closed = program_comment at word;
+  says = l.says;
+  filled = l.filled;
+  calm = l.calm;
 }
 
 abbrev program_said : (word : ℕ) (l : Line word (line.canonical_line word)) → IsProgramOf l.said word
@@ -49,9 +51,14 @@ program_text at word l = rw l.spelled (simp append_assoc)
 
 data_entry : (at word : ℕ) → word < 2 ^ 16 → Entry
 data_entry at word small = record {
-  these = Named (codes ".dw") ∷ Gap ∷ Numbered (48 ∷ 120 ∷ hex4 word) word ∷ []; comment = 32 ∷ hex3 at; said = datum word;
-  valid = data_valid word small; closed = data_comment at; says = data_says word;
+  these = Named (codes ".dw") ∷ Gap ∷ Numbered (48 ∷ 120 ∷ hex4 word) word ∷ [];
+  comment = 32 ∷ hex3 at;
+  said = datum word;
+  valid = data_valid word small;
+  closed = data_comment at;
+  says = data_says word;
   filled = λ source tokens h. filled_named source tokens (codes ".dw") _ h;
+  calm = refl;
 }
 
 data_text : (at word : ℕ) → data_line at word ≡ text_of (Named (codes ".dw") ∷ Gap ∷ Numbered (48 ∷ 120 ∷ hex4 word) word ∷ []) ++ (32 ∷ 32 ∷ 59 ∷ ((32 ∷ hex3 at) ++ 10 ∷ []))
@@ -111,11 +118,16 @@ entries_append [] second = refl
 entries_append (e ∷ first) second =
     ap (λ (t : List ℕ). entry_text e ++ t) (entries_append first second) ∙ sym (append_assoc (entry_text e) (entries_text first) (entries_text second))
 
+falses : (size place : ℕ) → get_or (replicate size false) place false ≡ false
+falses zero place = refl
+falses (suc size) zero = refl
+falses (suc size) (suc place) = falses size place
+
 empty_free : (size wanted : ℕ) → wanted ≤ size → IsFree (empty size) wanted
 unfolding empty
 empty_free size wanted h = record {
   room = rw (length-replicate size false) (omega arith);
-  free = λ place later. get_or-replicate {A = Bool} size place false;
+  free = λ place later. falses size place;
 }
 
 empty_at : (size : ℕ) → (empty size).at ≡ 0
@@ -137,7 +149,7 @@ entries_assemble image first second programs_are data_are n m prog_size drom_siz
     let some : length first ≤ 2048 = omega arith in
     let fewer : length second ≤ 1024 = omega arith in
     let free : IsFree moved.drom (length second) =
-      subst (λ (s : Space). IsFree s (length second)) (sym drom_stays) (empty_free 1024 (length second) fewer) in
+    subst (λ (s : Space). IsFree s (length second)) (sym drom_stays) (empty_free 1024 (length second) fewer) in
     record {
       statements = s1 ++ s2;
       says = record {
@@ -146,7 +158,7 @@ entries_assemble image first second programs_are data_are n m prog_size drom_siz
         source = subst (λ (ss : List Statement). IsSource text (tokens_from [] (entries_pieces (first ++ second))) ss) apart (entries_say text [] (first ++ second) refl);
       };
       placed = programs_placed text [] first image.prog s2 start programs_are (empty_free 2048 (length first) some)
-        ∙ data_placed text (entries_text first) second image.drom moved data_are free;
+          ∙ data_placed text (entries_text first) second image.drom moved data_are free;
       valued = programs_valued text names [] first image.prog s2 start programs_are ∙ data_valued text names (entries_text first) second image.drom moved data_are;
       prog = sym (programs_filled text names [] first image.prog s2 start (zeros 2048) programs_are
           ∙ data_rest text names (entries_text first) second image.drom moved (with_words_at (zeros 2048) (empty 2048).at image.prog) data_are
@@ -167,7 +179,7 @@ listing_assembles law image =
     let ps = programs 0 image.prog (all_words image.prog (λ k h. image.prog_table.each k (omega arith)) law) in
     let ds = supplies 0 image.drom (all_halves image.drom (λ k h. image.drom_table.each k (omega arith))) in
     let text : lines_from program_line 0 image.prog ++ lines_from data_line 0 image.drom ≡ entries_text (ps.entries ++ ds.entries) =
-      ap (λ (t : List ℕ). t ++ lines_from data_line 0 image.drom) ps.text ∙ ap (λ (t : List ℕ). entries_text ps.entries ++ t) ds.text
-      ∙ sym (entries_append ps.entries ds.entries) in
+    ap (λ (t : List ℕ). t ++ lines_from data_line 0 image.drom) ps.text ∙ ap (λ (t : List ℕ). entries_text ps.entries ++ t) ds.text
+    ∙ sym (entries_append ps.entries ds.entries) in
     subst (λ (t : List ℕ). IsImageOfText t image) (sym text)
     (entries_assemble image ps.entries ds.entries ps.are ds.are (ps.count ∙ size) (ds.count ∙ data_size) size data_size)

@@ -1,15 +1,12 @@
 -- Lines as the parts that their words and marks are.
-use Rattle.std.proofs.Common.{◌≡◌, ℕ, ◌+◌, ◌-◌, ◌<◌, ◌^◌, Bool, true, false, not, List, [], ◌∷◌, ◌++◌, length, take, drop, refl, sym, ap, ◌∙◌, subst, arith, append_assoc, append-nil, length-append}
-use Rattle.std.specs.Bool.{IsTrue}
+use Rattle.std.proofs.Common.{◌≡◌, ℕ, ◌+◌, false, List, [], ◌∷◌, ◌++◌, length, refl, sym, ap, ◌∙◌, subst, arith, append_assoc}
 use Rattle.std.specs.List.{slice_range}
 use Rattle.std.proofs.lemmas.Grind.{common_steps}
 use Rattle.wb_lex.specs.declared.tokens.Token.{Token}
-use Rattle.wb_lex.specs.declared.tokens.TokenKind.{TokenKind}
 use Rattle.wb_lex.specs.declared.tokens.TokenKind.TheVariants as kind
-use Rattle.wb_lex.specs.Characters.{is_word_character}
-use Rattle.wb_lex.specs.Pieces.{Piece, Blank, Return, Comment, Word, Mark, Feed, bytes_of, begins, IsPiece, IsCut}
+use Rattle.wb_lex.specs.Pieces.{Piece, Blank, Word, Mark, bytes_of, IsPiece, IsCut}
 use Rattle.wb_lex.specs.Tokens.{word_kind, is_wide_kind, is_wide, token_kind, AreNarrow, token_of, tokens_from}
-use Rattle.wb_syntax.specs.Spelling.{Says, spelling}
+use Rattle.wb_syntax.specs.Spelling.{Says}
 
 pub data Part : Type 0 where
   -- a name
@@ -114,12 +111,14 @@ token_says text before word rest e named = record {
 pub parts_show : (parts : List Part) (text before rest : List ℕ) → text ≡ before ++ (text_of parts ++ rest) → AreParts parts rest
     → Show text (tokens_from before (pieces_of parts)) (signs_of parts)
 parts_show [] text before rest e h = tt
-parts_show (Named word ∷ parts) text before rest e h =
-    (token_says text before word (text_of parts ++ rest) (e ∙ ap (λ (t : List ℕ). before ++ t) (append_assoc word (text_of parts) rest)) h.0.1,
-      parts_show parts text (before ++ word) rest (e ∙ ap (λ (t : List ℕ). before ++ t) (append_assoc word (text_of parts) rest) ∙ sym (append_assoc before word (text_of parts ++ rest))) h.1)
-parts_show (Numbered word n ∷ parts) text before rest e h =
-    (h.0.1,
-      parts_show parts text (before ++ word) rest (e ∙ ap (λ (t : List ℕ). before ++ t) (append_assoc word (text_of parts) rest) ∙ sym (append_assoc before word (text_of parts ++ rest))) h.1)
+parts_show (Named word ∷ parts) text before rest e h = (
+  token_says text before word (text_of parts ++ rest) (e ∙ ap (λ (t : List ℕ). before ++ t) (append_assoc word (text_of parts) rest)) h.0.1,
+  parts_show parts text (before ++ word) rest (e ∙ ap (λ (t : List ℕ). before ++ t) (append_assoc word (text_of parts) rest) ∙ sym (append_assoc before word (text_of parts ++ rest))) h.1,
+)
+parts_show (Numbered word n ∷ parts) text before rest e h = (
+  h.0.1,
+  parts_show parts text (before ++ word) rest (e ∙ ap (λ (t : List ℕ). before ++ t) (append_assoc word (text_of parts) rest) ∙ sym (append_assoc before word (text_of parts ++ rest))) h.1,
+)
 parts_show (Marked mark ∷ parts) text before rest e h =
     (refl, parts_show parts text (before ++ mark ∷ []) rest (e ∙ sym (append_assoc before (mark ∷ []) (text_of parts ++ rest))) h.1)
 parts_show (Gap ∷ parts) text before rest e h =

@@ -1,23 +1,22 @@
 -- Where the words of a listing are placed, and what they are.
-use Rattle.std.proofs.Common.{◌≡◌, ℕ, zero, suc, ◌+◌, ◌%◌, ◌^◌, ◌<◌, ◌≤◌, ℤ, pos, negsuc, nat_le, Bool, true, false, if◌then◌else◌, List, [], ◌∷◌, ◌++◌, length, map, Option, Some, None, refl, sym, ap, ◌∙◌, subst, arith, append_assoc, append-nil, get_or, set, codes}
+use Rattle.std.proofs.Common.{◌≡◌, ℕ, suc, ◌+◌, ◌%◌, ◌^◌, ◌<◌, ◌≤◌, pos, negsuc, false, List, [], ◌∷◌, ◌++◌, length, Option, None, refl, sym, ap, ◌∙◌, subst, arith, append_assoc, append-nil, get_or}
 use Rattle.std.specs.List.{slice_set}
 use Rattle.std.specs.Option.{option_or}
 use Rattle.std.proofs.lemmas.Bool.Decides.{nat_tests}
 use Rattle.std.proofs.lemmas.Grind.{common_steps}
 use Rattle.std.proofs.lemmas.List.{length-replicate}
 use Rattle.std.proofs.Math.Seq.{set-append_seam}
-use Rattle.wb_syntax.specs.Tree.{Tree, Number}
+use Rattle.wb_syntax.specs.Tree.{Number}
 use Rattle.wb_syntax.specs.declared.statements.Body.{Body}
 use Rattle.wb_syntax.specs.declared.statements.Body.TheVariants as body
 use Rattle.wb_syntax.specs.declared.statements.Statement.{Statement}
 use Rattle.wb_asm.specs.declared.counters.Counters.{Counters}
 use Rattle.wb_asm.specs.declared.faults.AsmKind.{AsmKind}
-use Rattle.wb_asm.specs.declared.faults.AsmFault.{AsmFault}
 use Rattle.wb_asm.specs.declared.layout.Layout.{Layout}
 use Rattle.wb_asm.specs.Assembly.{zeros}
 use Rattle.wb_asm.specs.Counters.{on_line, first_misplaced, laid_out, counters, counters_of}
-use Rattle.wb_asm.specs.Layout.{start, after, line_fault, early_number, early_fault, equ_fault, with_equ, program_after, data_after, place_fault}
-use Rattle.wb_asm.specs.Space.{Space, empty, with_word, word_fault}
+use Rattle.wb_asm.specs.Layout.{after, line_fault, early_number, early_fault, equ_fault, with_equ, data_after}
+use Rattle.wb_asm.specs.Space.{Space, with_word, word_fault}
 use Rattle.wb_asm.specs.Value.{Names}
 use Rattle.wb_asm.specs.Words.{values_fault, prog_with, drom_with, with_words_at, first_misvalued, prog_filled, drom_filled}
 use Rattle.wb_dis.proofs.Entries.{Entry, entry_text, entries_text, statement_of, statements}
@@ -38,8 +37,8 @@ free_next : (space : Space) (more : ℕ) → IsFree space (suc more) → IsFree 
 free_next space more h = record {
   room = let room = h.room in grind (arith, common_steps);
   free = λ place later.
-    let still = h.free place (omega arith) in
-    grind (arith, common_steps);
+      let still = h.free place (omega arith) in
+      grind (arith, common_steps);
 }
 
 -- a layout with one more program word
@@ -59,9 +58,9 @@ module _ (text : List ℕ) (line : ℕ) (b : Body) (h : IsProgram b) where
       ap (λ (s : Space). record { prog = s; drom = data_after before b (early_number text before b); names = with_equ text before.names b (early_number text before b) })
       (h.prog before (early_number text before b))
       ∙ ap (λ (s : Space). record { prog = with_word before.prog; drom = s; names = with_equ text before.names b (early_number text before b) })
-        (h.drom before (early_number text before b))
+      (h.drom before (early_number text before b))
       ∙ ap (λ (names : Names). record { prog = with_word before.prog; drom = before.drom; names = names })
-        (h.names text before.names (early_number text before b))
+      (h.names text before.names (early_number text before b))
 
   program_fault : (before : Layout) → word_fault before.prog ≡ None → line_fault text before this ≡ None
   unfolding line_fault
@@ -139,7 +138,7 @@ programs_placed text before (e ∷ es) (word ∷ words) later layout h free =
     let moved = program_after_is text line e.said h.0.placed layout in
     or_first _ _ none
     ∙ programs_placed text (before ++ entry_text e) es words later (after text layout (statement_of before e)) h.1
-      (subst (λ (l : Layout). IsFree l.prog (length es)) (sym moved) (free_next layout.prog (length es) free))
+    (subst (λ (l : Layout). IsFree l.prog (length es)) (sym moved) (free_next layout.prog (length es) free))
 
 -- and leave the data memory
 pub programs_drom : (text before : List ℕ) (es : List Entry) (words : List ℕ) (layout : Layout) → ArePrograms es words
@@ -157,13 +156,13 @@ data_placed text before (e ∷ es) [] layout h free = absurd h
 data_placed text before (e ∷ es) (word ∷ words) layout h free =
     let line = (statement_of before e).line in
     let fault : line_fault text layout (statement_of before e) ≡ None =
-      ap (λ (b : Body). line_fault text layout (record { line = line; label = None; body = b })) h.0
-      ∙ data_fault_none text line word layout (free_fault layout.drom (length es) free) in
+    ap (λ (b : Body). line_fault text layout (record { line = line; label = None; body = b })) h.0
+    ∙ data_fault_none text line word layout (free_fault layout.drom (length es) free) in
     let moved : after text layout (statement_of before e) ≡ supplied layout =
-      ap (λ (b : Body). after text layout (record { line = line; label = None; body = b })) h.0 ∙ data_after_is text line word layout in
+    ap (λ (b : Body). after text layout (record { line = line; label = None; body = b })) h.0 ∙ data_after_is text line word layout in
     or_first _ _ (no_line line _ fault)
     ∙ data_placed text (before ++ entry_text e) es words (after text layout (statement_of before e)) h.2
-      (subst (λ (l : Layout). IsFree l.drom (length es)) (sym moved) (free_next layout.drom (length es) free))
+    (subst (λ (l : Layout). IsFree l.drom (length es)) (sym moved) (free_next layout.drom (length es) free))
 
 module _ (text : List ℕ) (names : Names) where
   -- no value is faulty
@@ -186,12 +185,12 @@ module _ (text : List ℕ) (names : Names) where
   programs_filled before (e ∷ es) (word ∷ words) later layout memory h =
       let next = after text layout (statement_of before e) in
       let moved : next.prog.at ≡ layout.prog.at + 1 =
-        ap (λ (l : Layout). l.prog.at) (program_after_is text (statement_of before e).line e.said h.0.placed layout) in
+      ap (λ (l : Layout). l.prog.at) (program_after_is text (statement_of before e).line e.said h.0.placed layout) in
       ap (λ (m : List ℕ). prog_filled text names m (statements (before ++ entry_text e) es ++ later) (counters text next (statements (before ++ entry_text e) es ++ later)))
       (h.0.puts text names memory (counters_of layout))
       ∙ programs_filled (before ++ entry_text e) es words later next (slice_set memory layout.prog.at word) h.1
       ∙ ap (λ at. prog_filled text names (with_words_at (slice_set memory layout.prog.at word) at words) later (counters text (laid_out text next (statements (before ++ entry_text e) es)) later))
-        moved
+      moved
 
   pub programs_rest : (before : List ℕ) (es : List Entry) (words : List ℕ) (later : List Statement) (layout : Layout) (memory : List ℕ) → ArePrograms es words
       → drom_filled text names memory (statements before es ++ later) (counters text layout (statements before es ++ later))
@@ -232,8 +231,8 @@ module _ (text : List ℕ) (names : Names) where
       let line = (statement_of before e).line in
       let next = after text layout (statement_of before e) in
       let moved : next.drom.at ≡ layout.drom.at + 1 =
-        ap (λ (b : Body). (after text layout (record { line = line; label = None; body = b })).drom.at) h.0
-        ∙ ap (λ (l : Layout). l.drom.at) (data_after_is text line word layout) in
+      ap (λ (b : Body). (after text layout (record { line = line; label = None; body = b })).drom.at) h.0
+      ∙ ap (λ (l : Layout). l.drom.at) (data_after_is text line word layout) in
       ap (λ (m : List ℕ). drom_filled text names m (statements (before ++ entry_text e) es) (counters text next (statements (before ++ entry_text e) es)))
       (ap (λ (b : Body). drom_with text names memory (counters_of layout) b) h.0 ∙ data_puts text line word names memory (counters_of layout) h.1)
       ∙ data_filled (before ++ entry_text e) es words next (slice_set memory layout.drom.at word) h.2
@@ -246,7 +245,7 @@ written front [] (word ∷ words) same = absurd (omega arith)
 written front (old ∷ rest) [] same = absurd (omega arith)
 written front (old ∷ rest) (word ∷ words) same =
     let one : slice_set (front ++ old ∷ rest) (length front) word ≡ (front ++ word ∷ []) ++ rest =
-      set-append_seam front old rest word ∙ sym (append_assoc front (word ∷ []) rest) in
+    set-append_seam front old rest word ∙ sym (append_assoc front (word ∷ []) rest) in
     let count : length front + 1 ≡ length (front ++ word ∷ []) = grind (arith, common_steps) in
     let fewer : length rest ≡ length words = omega arith in
     ap (λ (m : List ℕ). with_words_at m (length front + 1) words) one
@@ -260,7 +259,7 @@ statements_append before [] second = ap (λ (b : List ℕ). statements b second)
 statements_append before (e ∷ first) second =
     ap (λ (ss : List Statement). statement_of before e ∷ ss)
     (statements_append (before ++ entry_text e) first second
-      ∙ ap (λ (b : List ℕ). statements (before ++ entry_text e) first ++ statements b second) (append_assoc before (entry_text e) (entries_text first)))
+    ∙ ap (λ (b : List ℕ). statements (before ++ entry_text e) first ++ statements b second) (append_assoc before (entry_text e) (entries_text first)))
 
 pub zeros_filled : (size : ℕ) (words : List ℕ) → length words ≡ size → with_words_at (zeros size) 0 words ≡ words
 unfolding zeros

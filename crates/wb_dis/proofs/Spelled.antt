@@ -1,14 +1,12 @@
 -- The canonical line of each word: what it is cut into, what it says, and the word that it places.
-use Rattle.std.proofs.Common.{◌≡◌, ℕ, ◌+◌, ◌*◌, ◌%◌, ◌^◌, ◌<◌, ◌≤◌, ◌==◌, ℤ, pos, negsuc, Bool, true, false, not, ◌&&◌, if◌then◌else◌, List, [], ◌∷◌, ◌++◌, length, map, set, codes, Option, Some, None, refl, sym, ap, ◌∙◌, subst, arith, append_assoc, append-nil, lit<, lit≤}
-use Rattle.std.specs.Int.{int_rem_euclid}
-use Rattle.std.specs.Int.RustNames.{unsigned_abs, int_le}
+use Rattle.std.proofs.Common.{◌≡◌, ℕ, ◌+◌, ◌*◌, ◌%◌, ◌^◌, ◌<◌, ◌≤◌, ◌==◌, ℤ, pos, negsuc, Bool, true, false, not, if◌then◌else◌, List, [], ◌∷◌, ◌++◌, codes, Option, Some, None, refl, sym, ap, ◌∙◌, subst, arith, append_assoc}
 use Rattle.std.specs.List.{slice_set}
 use Rattle.std.specs.Option.{option_or, IfSome}
 use Rattle.std.proofs.lemmas.Bool.Decides.{nat_tests}
 use Rattle.wb_lex.specs.declared.tokens.Token.{Token}
 use Rattle.wb_syntax.specs.Clause.{with_clauses, empty_word}
 use Rattle.wb_syntax.specs.Source.{is_filled}
-use Rattle.wb_syntax.specs.Statement.{IsBody, IsOperands, AreExpressions}
+use Rattle.wb_syntax.specs.Statement.{IsBody, AreExpressions}
 use Rattle.wb_syntax.specs.Separators.{parts, is_separator}
 use Rattle.wb_syntax.specs.Tree.{Tree, Number}
 use Rattle.wb_syntax.specs.declared.mnemonics.Mnemonic.TheVariants as mnemonic
@@ -21,7 +19,7 @@ use Rattle.wb_asm.specs.declared.layout.Layout.{Layout}
 use Rattle.wb_asm.specs.Layout.{early_fault, equ_fault, with_equ, program_after, data_after, place_fault}
 use Rattle.wb_asm.specs.Space.{word_fault, with_word}
 use Rattle.wb_asm.specs.Value.{Names, is_between, value_fault}
-use Rattle.wb_asm.specs.Words.{values_fault, prog_with, drom_with, low_word}
+use Rattle.wb_asm.specs.Words.{values_fault, prog_with, drom_with}
 use Rattle.wb_word.specs.Codes.{dst_code}
 use Rattle.wb_word.specs.Conditions.{cond_code}
 use Rattle.wb_word.specs.Encoding.{fields, number, instr_of}
@@ -36,7 +34,7 @@ use Rattle.wb_word.specs.declared.words.OpWord.{OpWord}
 use Rattle.wb_dis.specs.Digits.{hex3, hex4, hex6}
 use Rattle.wb_dis.specs.Line as line
 use Rattle.wb_dis.proofs.Clauses.{IsApart, listed, listed_told, listed_ascends, listed_makes, operation_spelled, operation_valid}
-use Rattle.wb_dis.proofs.Grammar.{operation_parts, ascends_apart, word_shown, number_shown, split_uncut, shown_uncut}
+use Rattle.wb_dis.proofs.Grammar.{IsCalm, operation_calm, operation_parts, ascends_apart, word_shown, number_shown, split_uncut, shown_uncut}
 use Rattle.wb_syntax.specs.declared.clauses.Clause.{Clause}
 use Rattle.wb_dis.proofs.Parts as sign
 use Rattle.wb_dis.proofs.Parts.{Part, Named, Numbered, Marked, Gap, Sign, Name, text_of, IsPart, AreParts, signs_of, Show}
@@ -66,6 +64,7 @@ pub record Line (word : ℕ) (text : List ℕ) : Type 0 where
   pub valid : (rest : List ℕ) → IsApart rest → AreParts these rest
   pub says : (source : List ℕ) (tokens : List Token) → Show source tokens (signs_of these) → IsBody source tokens said
   pub filled : (source : List ℕ) (tokens : List Token) → Show source tokens (signs_of these) → is_filled tokens ≡ true
+  pub calm : IsCalm (signs_of these)
   pub placed : IsProgram said
   pub values : (source : List ℕ) (names : Names) (at : Counters) → values_fault source names at said ≡ None
   pub puts : (source : List ℕ) (names : Names) (memory : List ℕ) (at : Counters) → prog_with source names memory at said ≡ slice_set memory at.prog word
@@ -83,36 +82,61 @@ or_none a h = rw h
 program_op : (o : OpWord) → IsProgram (body.Op o)
 unfolding drom_with
 program_op o = record {
-  early = λ text before. refl; equ = λ text names. refl; names = λ text names n. refl; prog = λ before n. refl; drom = λ before n. refl;
-  fault = λ before h. or_none (option_or (word_fault before.prog) None) (or_none (word_fault before.prog) h); rest = λ text names memory at. refl;
+  early = λ text before. refl;
+  equ = λ text names. refl;
+  names = λ text names n. refl;
+  prog = λ before n. refl;
+  drom = λ before n. refl;
+  fault = λ before h. or_none (option_or (word_fault before.prog) None) (or_none (word_fault before.prog) h);
+  rest = λ text names memory at. refl;
 }
 
 program_rt : (o : OpWord) → IsProgram (body.Rt o)
 unfolding drom_with
 program_rt o = record {
-  early = λ text before. refl; equ = λ text names. refl; names = λ text names n. refl; prog = λ before n. refl; drom = λ before n. refl;
-  fault = λ before h. or_none (option_or (word_fault before.prog) None) (or_none (word_fault before.prog) h); rest = λ text names memory at. refl;
+  early = λ text before. refl;
+  equ = λ text names. refl;
+  names = λ text names n. refl;
+  prog = λ before n. refl;
+  drom = λ before n. refl;
+  fault = λ before h. or_none (option_or (word_fault before.prog) None) (or_none (word_fault before.prog) h);
+  rest = λ text names memory at. refl;
 }
 
 program_ld : (dst : Dst) (x : Tree) → IsProgram (body.Ld dst x)
 unfolding drom_with
 program_ld dst x = record {
-  early = λ text before. refl; equ = λ text names. refl; names = λ text names n. refl; prog = λ before n. refl; drom = λ before n. refl;
-  fault = λ before h. or_none (option_or (word_fault before.prog) None) (or_none (word_fault before.prog) h); rest = λ text names memory at. refl;
+  early = λ text before. refl;
+  equ = λ text names. refl;
+  names = λ text names n. refl;
+  prog = λ before n. refl;
+  drom = λ before n. refl;
+  fault = λ before h. or_none (option_or (word_fault before.prog) None) (or_none (word_fault before.prog) h);
+  rest = λ text names memory at. refl;
 }
 
 program_jump : (cond : Cond) (x : Tree) → IsProgram (body.Jump cond x)
 unfolding drom_with
 program_jump cond x = record {
-  early = λ text before. refl; equ = λ text names. refl; names = λ text names n. refl; prog = λ before n. refl; drom = λ before n. refl;
-  fault = λ before h. or_none (option_or (word_fault before.prog) None) (or_none (word_fault before.prog) h); rest = λ text names memory at. refl;
+  early = λ text before. refl;
+  equ = λ text names. refl;
+  names = λ text names n. refl;
+  prog = λ before n. refl;
+  drom = λ before n. refl;
+  fault = λ before h. or_none (option_or (word_fault before.prog) None) (or_none (word_fault before.prog) h);
+  rest = λ text names memory at. refl;
 }
 
 program_word : (x : Tree) → IsProgram (body.Words (x ∷ []))
 unfolding drom_with
 program_word x = record {
-  early = λ text before. refl; equ = λ text names. refl; names = λ text names n. refl; prog = λ before n. refl; drom = λ before n. refl;
-  fault = λ before h. or_none (option_or (word_fault before.prog) None) (or_none (word_fault before.prog) h); rest = λ text names memory at. refl;
+  early = λ text before. refl;
+  equ = λ text names. refl;
+  names = λ text names n. refl;
+  prog = λ before n. refl;
+  drom = λ before n. refl;
+  fault = λ before h. or_none (option_or (word_fault before.prog) None) (or_none (word_fault before.prog) h);
+  rest = λ text names memory at. refl;
 }
 
 between : (high n : ℕ) → n ≤ high → is_between (pos 0) (pos high) (pos n) ≡ true
@@ -135,7 +159,14 @@ equal_from a b h = grind (arith, nat_tests)
 nop_says : (source : List ℕ) (tokens : List Token) → Show source tokens (Name (codes "nop") ∷ []) → IsBody source tokens (body.Op empty_word)
 nop_says source [] h = absurd h
 nop_says source (head ∷ []) h = record {
-  head = head; rest = []; split = refl; mnemonic = mnemonic.Nop; name = codes "nop"; is_named = refl; said = h.0; operands = (refl, refl);
+  head = head;
+  rest = [];
+  split = refl;
+  mnemonic = mnemonic.Nop;
+  name = codes "nop";
+  is_named = refl;
+  said = h.0;
+  operands = (refl, refl);
 }
 nop_says source (head ∷ next ∷ tokens) h = absurd h.1
 
@@ -152,7 +183,13 @@ op_says o source [] h = absurd (bool_apart (operation_filled (codes "op") o sour
 op_says o source (head ∷ tokens) h =
     let shown = word_shown source tokens (listed o) (codes "op") head (listed_told o) (ascends_apart 0 (listed o) (listed_ascends o)) h in
     record {
-      head = head; rest = tokens; split = refl; mnemonic = mnemonic.Op; name = codes "op"; is_named = refl; said = shown.0;
+      head = head;
+      rest = tokens;
+      split = refl;
+      mnemonic = mnemonic.Op;
+      name = codes "op";
+      is_named = refl;
+      said = shown.0;
       operands = (with_clauses empty_word (listed o), refl, shown.1);
     }
 
@@ -162,7 +199,13 @@ rt_says o source [] h = absurd (bool_apart (operation_filled (codes "rt") o sour
 rt_says o source (head ∷ tokens) h =
     let shown = word_shown source tokens (listed o) (codes "rt") head (listed_told o) (ascends_apart 0 (listed o) (listed_ascends o)) h in
     record {
-      head = head; rest = tokens; split = refl; mnemonic = mnemonic.Rt; name = codes "rt"; is_named = refl; said = shown.0;
+      head = head;
+      rest = tokens;
+      split = refl;
+      mnemonic = mnemonic.Rt;
+      name = codes "rt";
+      is_named = refl;
+      said = shown.0;
       operands = (with_clauses empty_word (listed o), refl, shown.1);
     }
 
@@ -178,7 +221,13 @@ plain_says : (word : ℕ) (source : List ℕ) (tokens : List Token) → Show sou
     → IsBody source tokens (body.Words (Number word ∷ []))
 plain_says word source [] h = absurd h
 plain_says word source (head ∷ tokens) h = record {
-  head = head; rest = tokens; split = refl; mnemonic = mnemonic.Word; name = codes ".word"; is_named = refl; said = h.0;
+  head = head;
+  rest = tokens;
+  split = refl;
+  mnemonic = mnemonic.Word;
+  name = codes ".word";
+  is_named = refl;
+  said = h.0;
   operands = (Number word ∷ [], refl, numbers_shown source tokens word h.1);
 }
 
@@ -188,17 +237,40 @@ ld_says dst value source [] h = absurd h
 ld_says dst value source (head ∷ []) h = absurd h.1
 ld_says dst value source (head ∷ name ∷ []) h = absurd h.1.1
 ld_says dst value source (head ∷ name ∷ comma ∷ tokens) h = record {
-  head = head; rest = name ∷ comma ∷ tokens; split = refl; mnemonic = mnemonic.Ld; name = codes "ld"; is_named = refl; said = h.0;
-  operands = (dst, Number value, refl, record {
-      name = name; comma = comma; others = tokens; split = refl; named = h.1.0; separated = h.1.1.0; valued = number_shown source tokens value h.1.1.1;
-    });
+  head = head;
+  rest = name ∷ comma ∷ tokens;
+  split = refl;
+  mnemonic = mnemonic.Ld;
+  name = codes "ld";
+  is_named = refl;
+  said = h.0;
+  operands = (
+    dst,
+    Number value,
+    refl,
+    record {
+      name = name;
+      comma = comma;
+      others = tokens;
+      split = refl;
+      named = h.1.0;
+      separated = h.1.1.0;
+      valued = number_shown source tokens value h.1.1.1;
+    },
+  );
 }
 
 jump_says : (cond : Cond) (name : List ℕ) (na : ℕ) → cond_name cond ≡ Some name → (source : List ℕ) (tokens : List Token)
     → Show source tokens (Name name ∷ sign.Number na ∷ []) → IsBody source tokens (body.Jump cond (Number na))
 jump_says cond name na named source [] h = absurd h
 jump_says cond name na named source (head ∷ tokens) h = record {
-  head = head; rest = tokens; split = refl; mnemonic = mnemonic.Jump cond; name = name; is_named = named; said = h.0;
+  head = head;
+  rest = tokens;
+  split = refl;
+  mnemonic = mnemonic.Jump cond;
+  name = name;
+  is_named = named;
+  said = h.0;
   operands = (Number na, refl, number_shown source tokens na h.1);
 }
 
@@ -212,6 +284,7 @@ op_case true word o zero whole = record {
   valid = λ rest apart. (((refl, ap not apart), refl), tt);
   says = nop_says;
   filled = λ source tokens h. filled_named source tokens (codes "nop") [] h;
+  calm = tt;
   placed = program_op empty_word;
   values = λ source names at. refl;
   puts = λ source names memory at. ap (λ w. slice_set memory at.prog w) (sym (equal_from word 0 zero));
@@ -223,6 +296,7 @@ op_case false word o some whole = record {
   valid = λ rest apart. operation_valid (codes "op") (listed o) rest (record { whole = refl; named = refl }) apart;
   says = op_says o;
   filled = operation_filled (codes "op") o;
+  calm = operation_calm (codes "op") (listed o);
   placed = program_op (with_clauses empty_word (listed o));
   values = λ source names at. refl;
   puts = λ source names memory at. ap (λ w. slice_set memory at.prog w) (listed_makes o ∙ whole);
@@ -237,6 +311,7 @@ rt_case word o whole = record {
   valid = λ rest apart. operation_valid (codes "rt") (listed o) rest (record { whole = refl; named = refl }) apart;
   says = rt_says o;
   filled = operation_filled (codes "rt") o;
+  calm = operation_calm (codes "rt") (listed o);
   placed = program_rt (with_clauses empty_word (listed o));
   values = λ source names at. refl;
   puts = λ source names memory at. ap (λ n. slice_set memory at.prog (2 ^ 22 + n)) (listed_makes o) ∙ ap (λ w. slice_set memory at.prog w) whole;
@@ -251,10 +326,11 @@ plain_case word small = record {
   valid = λ rest apart. (((refl, refl), refl), (tt, (number_part (48 ∷ 120 ∷ hex6 word) word rest (hex6_number word small) apart, tt)));
   says = plain_says word;
   filled = λ source tokens h. filled_named source tokens (codes ".word") _ h;
+  calm = refl;
   placed = program_word (Number word);
   values = λ source names at.
-    let high : word ≤ 16777215 = omega arith in
-    ap (λ (f : Option AsmKind). option_or (option_or f None) None) (number_fault source names at.prog (pos 0) (pos 16777215) word (between 16777215 word high));
+      let high : word ≤ 16777215 = omega arith in
+      ap (λ (f : Option AsmKind). option_or (option_or f None) None) (number_fault source names at.prog (pos 0) (pos 16777215) word (between 16777215 word high));
   puts = λ source names memory at. refl;
 }
 
@@ -276,17 +352,18 @@ ld_case true word value spare dst zero small low whole = record {
   said = body.Ld dst (Number value);
   spelled = ap (λ (t : List ℕ). 108 ∷ 100 ∷ 32 ∷ t) (sym (append_assoc (dst_name dst) (44 ∷ 48 ∷ 120 ∷ []) (hex4 value)));
   valid = λ rest apart.
-    (((refl, refl), refl), (tt, ((((dst_named dst).whole, refl), (dst_named dst).named), (refl, (number_part (48 ∷ 120 ∷ hex4 value) value rest (hex4_number value low) apart, tt)))));
+      (((refl, refl), refl), (tt, ((((dst_named dst).whole, refl), (dst_named dst).named), (refl, (number_part (48 ∷ 120 ∷ hex4 value) value rest (hex4_number value low) apart, tt)))));
   says = ld_says dst value;
   filled = λ source tokens h. filled_named source tokens (codes "ld") _ h;
+  calm = refl;
   placed = program_ld dst (Number value);
   values = λ source names at.
-    let high : value ≤ 65535 = omega arith in
-    ap (λ (f : Option AsmKind). option_or (option_or f None) None) (number_fault source names at.prog (negsuc 32767) (pos 65535) value (between_signed 32767 65535 value high));
+      let high : value ≤ 65535 = omega arith in
+      ap (λ (f : Option AsmKind). option_or (option_or f None) None) (number_fault source names at.prog (negsuc 32767) (pos 65535) value (between_signed 32767 65535 value high));
   puts = λ source names memory at.
-    let none = equal_from spare 0 zero in
-    let same : value % 65536 ≡ value = omega arith in
-    ap (λ w. slice_set memory at.prog w) (ld_number value spare (dst_code dst) word none same whole);
+      let none = equal_from spare 0 zero in
+      let same : value % 65536 ≡ value = omega arith in
+      ap (λ w. slice_set memory at.prog w) (ld_number value spare (dst_code dst) word none same whole);
 }
 
 jump_case : (b : Bool) (word na spare : ℕ) (cond : Cond) (name : List ℕ) → (spare == 0) ≡ b → word < 2 ^ 24 → na < 2048 → cond_name cond ≡ Some name
@@ -301,14 +378,15 @@ jump_case true word na spare cond name zero small low named h whole = record {
   valid = λ rest apart. (((h.whole, refl), h.named), (tt, (number_part (48 ∷ 120 ∷ hex3 na) na rest (hex3_number na (omega arith)) apart, tt)));
   says = jump_says cond name na named;
   filled = λ source tokens g. filled_named source tokens name _ g;
+  calm = refl;
   placed = program_jump cond (Number na);
   values = λ source names at.
-    let high : na ≤ 2047 = omega arith in
-    ap (λ (f : Option AsmKind). option_or (option_or f None) None) (number_fault source names at.prog (pos 0) (pos 2047) na (between 2047 na high));
+      let high : na ≤ 2047 = omega arith in
+      ap (λ (f : Option AsmKind). option_or (option_or f None) None) (number_fault source names at.prog (pos 0) (pos 2047) na (between 2047 na high));
   puts = λ source names memory at.
-    let none = equal_from spare 0 zero in
-    let same : na % 2048 ≡ na = omega arith in
-    ap (λ w. slice_set memory at.prog w) (jump_number (cond_code cond) na spare word none same whole);
+      let none = equal_from spare 0 zero in
+      let same : na % 2048 ≡ na = omega arith in
+      ap (λ w. slice_set memory at.prog w) (jump_number (cond_code cond) na spare word none same whole);
 }
 
 named_case : (word : ℕ) (cond : Cond) (na : Addr) (spare : Spare) (name : Option (List ℕ)) → cond_name cond ≡ name → IfSome name IsName → word < 2 ^ 24
@@ -338,6 +416,12 @@ pub data_says : (word : ℕ) (source : List ℕ) (tokens : List Token) → Show 
     → IsBody source tokens (body.Dwords (Number word ∷ []))
 data_says word source [] h = absurd h
 data_says word source (head ∷ tokens) h = record {
-  head = head; rest = tokens; split = refl; mnemonic = mnemonic.Dw; name = codes ".dw"; is_named = refl; said = h.0;
+  head = head;
+  rest = tokens;
+  split = refl;
+  mnemonic = mnemonic.Dw;
+  name = codes ".dw";
+  is_named = refl;
+  said = h.0;
   operands = (Number word ∷ [], refl, numbers_shown source tokens word h.1);
 }

@@ -1,5 +1,5 @@
 -- The words that canonical lines are made of: each is a name or a number.
-use Rattle.std.proofs.Common.{◌≡◌, ℕ, zero, suc, ◌==◌, ◌+◌, ◌*◌, ◌/◌, ◌%◌, ◌^◌, ◌<◌, ◌≤◌, nat_lt, Bool, true, false, ◌&&◌, not, if◌then◌else◌, List, [], ◌∷◌, ◌++◌, Some, None, codes, map, length, nat_le, ◌∙◌, refl, ap, arith, lit<}
+use Rattle.std.proofs.Common.{◌≡◌, ℕ, zero, suc, ◌==◌, ◌+◌, ◌*◌, ◌/◌, ◌%◌, ◌^◌, ◌<◌, nat_lt, Bool, true, false, ◌&&◌, if◌then◌else◌, List, [], ◌∷◌, ◌++◌, Some, None, map, length, nat_le, ◌∙◌, refl, ap, arith, lit<}
 use Rattle.std.specs.Char.{digit_char, digit_value, is_digit}
 use Rattle.std.specs.List.{list_all, list_any}
 use Rattle.std.specs.Option.{IfSome}
@@ -221,7 +221,7 @@ number_is : (value : ℕ) (values : List ℕ) (n : ℕ) → AreDigits (value ∷
     → number_after 0 (value ∷ values) ≡ n → n < 2 ^ 32 → IsNumber (48 ∷ 120 ∷ map hex_digit (value ∷ values)) n
 number_is value values n h some same narrow =
     let numbered : word_kind (48 ∷ 120 ∷ map hex_digit (value ∷ values)) ≡ kind.Number n =
-      when _ _ (digits_value 16 (map hex_digit (value ∷ values))) n some (digits (value ∷ values) h) (worth (value ∷ values) 0 h ∙ same) in
+    when _ _ (digits_value 16 (map hex_digit (value ∷ values))) n some (digits (value ∷ values) h) (worth (value ∷ values) 0 h ∙ same) in
     record {
       whole = characters (value ∷ values) h;
       numbered = numbered;
