@@ -18,8 +18,8 @@ use Rattle.wb_law.proofs.Pigeon.{no_more}
 all_by : {X : Type 0} → (P Q : X → Type 0) (xs : List X) → ((x : X) → P x → Q x) → All P xs → All Q xs
 all_by P Q xs f h i x less = f (slice_index_or xs i x) (h i x less)
 
-bounded : {X : Type 0} → (P : X → Type 0) (ys : List X) → ((x : X) → P x → Contains ys x) → AtMost P (length ys)
-bounded P ys f xs d h = no_more xs ys d (all_by P (Contains ys) xs f h)
+bounded : {X : Type 0} → (P : X → Type 0) (ys : List X) (p : ℕ) → ((x : X) → P x → Contains ys x) → length ys ≤ p → AtMost P p
+bounded P ys p f l xs d h = let m = no_more xs ys d (all_by P (Contains ys) xs f h) in omega arith
 
 greater : {X : Type 0} → (P : X → Type 0) (p q : ℕ) → p ≤ q → AtMost P p → AtMost P q
 greater P p q l b xs d h = let m = b xs d h in omega arith
@@ -28,10 +28,10 @@ narrower : {X : Type 0} → (P Q : X → Type 0) (p : ℕ) → ((x : X) → P x 
 narrower P Q p f b xs d h = b xs d (all_by P Q xs f h)
 
 pub lists_bound_reached_points : ListsBoundReachedPoints
-lists_bound_reached_points a b n k shape power points f = bounded (IsReached a b n k shape power) points f
+lists_bound_reached_points a b n k shape power points p f l = bounded (IsReached a b n k shape power) points p f l
 
 pub lists_bound_points_of_a_side : ListsBoundPointsOfASide
-lists_bound_points_of_a_side image s n k shape power points f = bounded (IsReachedOn image s n k shape power) points f
+lists_bound_points_of_a_side image s n k shape power points p f l = bounded (IsReachedOn image s n k shape power) points p f l
 
 pub greater_bounds_hold : GreaterBoundsHold
 greater_bounds_hold a b n k shape power p q l h = greater (IsReached a b n k shape power) p q l h

@@ -1,47 +1,41 @@
 -- The addresses that held runs execute, and how points show them.
-use Rattle.std.proofs.Common.{◌≡◌, ℕ, ◌+◌, Bool, true, false, Option, Some, None, List, [], ◌∷◌, ◌++◌, length, length-append, refl, sym, ap, subst, ◌∙◌, arith}
+use Rattle.std.proofs.Common.{◌≡◌, ℕ, Bool, true, false, Option, Some, None, List, [], ◌∷◌, ◌++◌, refl, sym, ap, subst, ◌∙◌}
 use mathlib.Core.Logic.◌⊎◌.{inl, inr}
 use Rattle.std.specs.List.{AllByRecursion}
 use Rattle.std.proofs.lemmas.Bool.{and_left}
-use Rattle.std.proofs.lemmas.List.Elements.{recursion_from_All, All-from_recursion}
+use Rattle.std.proofs.lemmas.List.Elements.{All-from_recursion}
 use Rattle.wb_word.specs.declared.sides.Side.{Side}
 use Rattle.wb_rom.specs.declared.images.Image.{Image}
 use Rattle.wb_port.specs.declared.accesses.Access.{Access}
 use Rattle.wb_port.specs.declared.accesses.Access.TheVariants as access
 use Rattle.wb_port.specs.declared.accesses.Event.TheVariants as event
 use Rattle.wb_port.specs.declared.accesses.Kind.{Kind}
-use Rattle.wb_port.specs.declared.accesses.Letter.{Letter}
-use Rattle.wb_port.specs.declared.accesses.Power.{Power}
 use Rattle.wb_port.specs.declared.chips.Chip.{Chip}
 use Rattle.wb_port.specs.declared.points.Point.{Point}
 use Rattle.wb_port.specs.declared.runs.Run.{Run}
 use Rattle.wb_port.specs.declared.runs.Run.TheVariants.{Answered}
 use Rattle.wb_port.specs.Port.{rqm}
 use Rattle.wb_port.specs.Wait.{is_poll, follow_times}
-use Rattle.wb_port.specs.Monitor.{place, is_breach}
+use Rattle.wb_port.specs.Monitor.{place}
 use Rattle.wb_port.specs.Schedule.{powered, applied}
-use Rattle.wb_port.specs.Talk.{Talk, IsByteAccess, kinds, dialogue, transfers_of, IsTransfer}
-use Rattle.wb_port.specs.Dialogue.{Fits, AllowsEach}
+use Rattle.wb_port.specs.Talk.{Talk, kinds, dialogue, transfers_of, IsTransfer}
+use Rattle.wb_port.specs.Dialogue.{Fits}
 use Rattle.wb_port.specs.Run.{Moment, Steps, Ends, is_waiting, turn, turns, beginning}
 use Rattle.wb_law.specs.Course.{stop_of, strides, RestsAt, Given}
 use Rattle.wb_port.specs.Points.{point_of, point_at}
 use Rattle.wb_law.specs.Points.{PassesAfter}
+use Rattle.wb_port.specs.FitLaws.{FrontsFit, StatusReadsAlwaysFit}
 use Rattle.wb_port.specs.Executes.{Executes}
-use Rattle.wb_law.specs.Addresses.{stop_at, PointsTellWhatComes, Shows, IsShown, ExecutedAddressesAreShown, ShownAddressesAreExecuted, ReachedPointsShowTheExecuted}
+use Rattle.wb_law.specs.declared.classes.Class.TheVariants.{Rests, GoesOn}
+use Rattle.wb_law.specs.Addresses.{Shows, IsShown, ExecutedAddressesAreShown, ShownAddressesAreExecuted, ReachedPointsShowTheExecuted}
 use Rattle.wb_law.proofs.Turns.{moment, gives, waits}
 use Rattle.wb_law.proofs.Stops.{strides_then, rests_then}
 use Rattle.wb_law.proofs.Eager.{not_stopped}
 use Rattle.wb_law.proofs.Ranks.{on_the_way}
-use Rattle.wb_law.proofs.Replies.{kinds_append, kinds_stripped, all_transfers}
+use Rattle.wb_law.proofs.Replies.{kinds_stripped, all_transfers}
 use Rattle.wb_law.proofs.HeldPoints.{points_after_accesses, last_points}
+use Rattle.wb_law.proofs.Telling.{points_tell_what_comes}
 use Rattle.wb_law.proofs.Moments.{IsAfter, leads, comes_all, silent_as, held_as}
-
-stop_is : (image : Image) (k : ℕ) (s : Side) (ks : List Kind) (c : Chip) → stop_at image k (point_at s ks c) ≡ stop_of image k c
-unfolding stop_at stop_of is_breach
-stop_is image k s ks c = refl
-
-pub points_tell_what_comes : PointsTellWhatComes
-points_tell_what_comes image k s ks c = record { rests = refl; stops = stop_is image k s ks c }
 
 module _ (image : Image) (k : ℕ) where
   -- a held chip that executes an instruction neither waits nor stops
@@ -134,12 +128,12 @@ executed_addresses_are_shown image s k d at h = go_by h
         let m = turns image k true x.before (beginning d) in
         let w = works_of image k m.left m.given m.chip m.said x.next x.executes in
         shown image s k d at m (leads image k x.before d.accesses [] (powered d.start) [])
-        (inl (record { works = w.0; unstopped = stop_is image k s (kinds m.given) m.chip ∙ w.1; place = x.place }))
+        (inl (record { class = (points_tell_what_comes image k s (kinds m.given) m.chip GoesOn).1 w; place = x.place }))
     go_by (inr x) =
         let m = turns image k true x.before (beginning d) in
         let w = waits_of image k m.left m.given m.chip m.said x.replies x.answered in
         shown image s k d at m (leads image k x.before d.accesses [] (powered d.start) [])
-        (inr (record { rests = w.1; follows = x.follows; few = x.few; place = x.place }))
+        (inr (record { class = (points_tell_what_comes image k s (kinds m.given) m.chip Rests).1 w.1; follows = x.follows; few = x.few; place = x.place }))
 
 -- a chip that the held one comes to after all accesses executes what it shows
 executed : (image : Image) (s : Side) (k : ℕ) (start : List ℕ) (l : List Access) (p : Point) (at : ℕ) → PassesAfter image s k l (powered start) p → Shows image k p at → Executes image (dialogue start l) k at
@@ -154,13 +148,13 @@ executed image s k start l p at h show =
     go_by said (j, e) (inl g) = inl (record {
       before = j;
       next = _;
-      executes = ap (turn image k true) e ∙ held_as image k l c said None g.works (sym (stop_is image k s (kinds l) c) ∙ g.unstopped);
+      executes = let w = (points_tell_what_comes image k s (kinds l) c GoesOn).0 g.class in ap (turn image k true) e ∙ held_as image k l c said None w.0 w.1;
       place = ap (λ (m : Moment). place m.chip) e ∙ g.place;
     })
     go_by said (j, e) (inr g) = inr (record {
       before = j;
       replies = said;
-      answered = ap (turn image k true) e ∙ waits image k c l said g.rests;
+      answered = ap (turn image k true) e ∙ waits image k c l said ((points_tell_what_comes image k s (kinds l) c Rests).0 g.class);
       follows = g.follows;
       few = g.few;
       place = ap (λ (m : Moment). follow_times image g.follows (place m.chip)) e ∙ g.place;
@@ -170,53 +164,12 @@ pub shown_addresses_are_executed : ShownAddressesAreExecuted
 shown_addresses_are_executed image s k d p at only same passes show =
     executed image s k d.start d.accesses p at ((last_points image s k d p only same).0 passes) show
 
--- the transfers of the first part of what fits, and what fits without its status reads
-allows_first : (shape : List Letter) (xs ys : List Kind) → AllowsEach shape (xs ++ ys) → AllowsEach shape xs
-allows_first shape [] ys h = tt
-allows_first [] (x ∷ xs) ys h = h
-allows_first (l ∷ shape) (x ∷ xs) ys h = (h.0, allows_first shape xs ys h.1)
-
-bytes_first : (xs ys : List Access) → AllByRecursion IsByteAccess (xs ++ ys) → AllByRecursion IsByteAccess xs
-bytes_first [] ys h = tt
-bytes_first (x ∷ xs) ys h = (h.0, bytes_first xs ys h.1)
-
-bytes_stripped : (xs : List Access) → AllByRecursion IsByteAccess xs → AllByRecursion IsByteAccess (transfers_of xs)
-bytes_stripped [] h = tt
-bytes_stripped (access.Status ∷ xs) h = bytes_stripped xs h.1
-bytes_stripped (access.Read ∷ xs) h = (h.0, bytes_stripped xs h.1)
-bytes_stripped (access.Write b ∷ xs) h = (h.0, bytes_stripped xs h.1)
-
 transfers_first : (xs ys : List Access) → AllByRecursion IsTransfer (xs ++ ys) → AllByRecursion IsTransfer xs
 transfers_first [] ys h = tt
 transfers_first (x ∷ xs) ys h = (h.0, transfers_first xs ys h.1)
 
-module _ (n : ℕ) (shape : List Letter) (power : Power) (start : List ℕ) where
-  fits_first : (xs ys : List Access) → Fits n shape power (dialogue start (xs ++ ys)) → Fits n shape power (dialogue start xs)
-  fits_first xs ys f =
-      let e = kinds_append xs ys in
-      let a : length (kinds (xs ++ ys)) ≡ length (kinds xs) + length (kinds ys) = ap length e ∙ length-append (kinds xs) (kinds ys) in
-      let short = f.short in
-      record {
-        short = omega arith;
-        shaped = allows_first shape (kinds xs) (kinds ys) (subst (AllowsEach shape) e f.shaped);
-        powered = f.powered;
-        start_in = f.start_in;
-        bytes_in = All-from_recursion IsByteAccess xs (bytes_first xs ys (recursion_from_All IsByteAccess (xs ++ ys) f.bytes_in));
-      }
-
-  fits_stripped : (xs : List Access) → Fits n shape power (dialogue start xs) → Fits n shape power (dialogue start (transfers_of xs))
-  fits_stripped xs f =
-      let e = kinds_stripped xs in
-      record {
-        short = let a = ap length e in let short = f.short in omega arith;
-        shaped = subst (AllowsEach shape) (sym e) f.shaped;
-        powered = f.powered;
-        start_in = f.start_in;
-        bytes_in = All-from_recursion IsByteAccess (transfers_of xs) (bytes_stripped xs (recursion_from_All IsByteAccess xs f.bytes_in));
-      }
-
-pub reached_points_show_the_executed : ReachedPointsShowTheExecuted
-reached_points_show_the_executed image s n k shape power at = (
+pub reached_points_show_the_executed : FrontsFit → StatusReadsAlwaysFit → ReachedPointsShowTheExecuted
+reached_points_show_the_executed fronts stripped image s n k shape power at = (
   λ h.
       let d = h.dialogue in
       let w = executed_addresses_are_shown image s k d at h.executes in
@@ -226,7 +179,7 @@ reached_points_show_the_executed image s n k shape power at = (
         point = w.point;
         reached = record {
           dialogue = dialogue d.start w.front;
-          fits = fits_first n shape power d.start w.front w.rest (subst (λ (x : List Access). Fits n shape power (dialogue d.start x)) e (fits_stripped n shape power d.start d.accesses h.fits));
+          fits = fronts n shape power d.start w.front w.rest (subst (λ (x : List Access). Fits n shape power (dialogue d.start x)) e ((stripped n shape power d.start d.accesses).0 h.fits));
           transfers = All-from_recursion IsTransfer w.front (transfers_first w.front w.rest all);
           passes = w.passes;
         };
@@ -239,7 +192,7 @@ reached_points_show_the_executed image s n k shape power at = (
       let e : d.accesses ≡ w.front ++ w.rest = w.parts in
       record {
         dialogue = dialogue d.start w.front;
-        fits = fits_first n shape power d.start w.front w.rest (subst (λ (x : List Access). Fits n shape power (dialogue d.start x)) e r.fits);
+        fits = fronts n shape power d.start w.front w.rest (subst (λ (x : List Access). Fits n shape power (dialogue d.start x)) e r.fits);
         executes = executed image s k d.start w.front h.point at w.passes h.shows;
       },
 )

@@ -7,6 +7,8 @@ pub mod Executing
 pub mod Faithful
 pub mod FreshRequests
 pub mod HeldPoints
+pub mod InRange
+pub mod Least
 pub mod Moments
 pub mod Pigeon
 pub mod Ranks
@@ -14,6 +16,7 @@ pub mod Replies
 pub mod StatusReads
 pub mod Stops
 pub mod Striding
+pub mod Telling
 pub mod Turns
 pub mod Waiting
 pub mod Walks

@@ -1,62 +1,34 @@
--- How points show which addresses held runs execute, and where held runs are answered.
-use Rattle.std.specs.Prelude.{◌≡◌, ◌↔◌, ℕ, ◌≤◌, Bool, true, false, ◌&&◌, ◌==◌, if◌then◌else◌, Option, Some, None, List, ◌++◌, ◌⊎◌, All}
-use Rattle.wb_word.specs.Encoding.{addr_at}
+-- How points show which addresses held runs execute.
+use Rattle.std.specs.Prelude.{◌≡◌, ◌↔◌, ℕ, ◌≤◌, List, ◌++◌, ◌⊎◌, All}
 use Rattle.wb_word.specs.declared.sides.Side.{Side}
 use Rattle.wb_rom.specs.declared.images.Image.{Image}
 use Rattle.wb_port.specs.declared.accesses.Access.{Access}
-use Rattle.wb_port.specs.declared.accesses.Kind.{Kind}
 use Rattle.wb_port.specs.declared.accesses.Letter.{Letter}
 use Rattle.wb_port.specs.declared.accesses.Power.{Power}
-use Rattle.wb_port.specs.declared.chips.Chip.{Chip}
 use Rattle.wb_port.specs.declared.points.Point.{Point}
-use Rattle.wb_port.specs.declared.runs.Run.{Run}
-use Rattle.wb_port.specs.declared.runs.Run.TheVariants.{Overrun, Breach}
-use Rattle.wb_port.specs.Wait.{is_poll, follow_times}
-use Rattle.wb_port.specs.Monitor.{breaks_at}
+use Rattle.wb_port.specs.Wait.{follow_times}
 use Rattle.wb_port.specs.Talk.{Talk, kinds, dialogue, transfers_of, IsTransfer}
 use Rattle.wb_port.specs.Dialogue.{Fits}
 use Rattle.wb_port.specs.Executes.{Executes}
-use Rattle.wb_law.specs.Course.{rests, stop_of}
-use Rattle.wb_port.specs.Points.{point_at, Passes, IsReachedOn}
-
--- the held chip of the point waits at a poll
-abbrev pub is_resting : Image → Point → Bool
-is_resting image p = p.rqm && is_poll image p.pc
-
--- the end of a run whose chip can't execute its next instruction at the point, if it can't
-unfoldable pub stop_at : Image → ℕ → Point → Option Run
-stop_at image k p =
-    if p.count == k
-    then Some Overrun
-    else if breaks_at image p.asked p.pc then Some (Breach (addr_at p.pc)) else None
-
--- the point of a chip says of it whether it rests where it is held, and how it stops
-pub record Tells (image : Image) (k : ℕ) (p : Point) (c : Chip) : Type 0 where
-  pub rests : is_resting image p ≡ rests image true c
-  pub stops : stop_at image k p ≡ stop_of image k c
-
--- A point tells what comes: whether its chip rests where it is held, and how it stops.
-abbrev pub PointsTellWhatComes : Type 0
-PointsTellWhatComes =
-    (image : Image) (k : ℕ) (s : Side) (kinds : List Kind) (c : Chip)
-    → Tells image k (point_at s kinds c) c
+use Rattle.wb_port.specs.Points.{Passes, IsReachedOn}
+use Rattle.wb_law.specs.Classes.{class_at}
+use Rattle.wb_law.specs.declared.classes.Class.TheVariants.{Rests, GoesOn}
 
 -- the chip at the point executes the instruction at the address next
 pub record GoesOnAt (image : Image) (k : ℕ) (p : Point) (at : ℕ) : Type 0 where
-  pub works : is_resting image p ≡ false
-  pub unstopped : stop_at image k p ≡ None
+  pub class : class_at image k p ≡ GoesOn
   pub place : p.pc ≡ at
 
 -- the chip at the point waits in a loop that has the address
-pub record RestsAround (image : Image) (p : Point) (at : ℕ) : Type 0 where
-  pub rests : is_resting image p ≡ true
+pub record RestsAround (image : Image) (k : ℕ) (p : Point) (at : ℕ) : Type 0 where
+  pub class : class_at image k p ≡ Rests
   pub follows : ℕ
   pub few : follows ≤ 7
   pub place : follow_times image follows p.pc ≡ at
 
 -- a held chip that comes to the point executes the address
 abbrev pub Shows : Image → ℕ → Point → ℕ → Type 0
-Shows image k p at = GoesOnAt image k p at ⊎ RestsAround image p at
+Shows image k p at = GoesOnAt image k p at ⊎ RestsAround image k p at
 
 -- a point that the held run passes after the first transfers of the dialogue shows the address
 pub record IsShown (image : Image) (s : Side) (k : ℕ) (d : Talk) (at : ℕ) : Type 0 where

@@ -1,11 +1,14 @@
 pub mod Addresses
+pub mod Classes
 pub mod Counts
 pub mod Course
 pub mod Points
 pub mod PortFacts
+pub mod Ranges
 pub mod Reached
 pub mod Requests
 pub mod Runs
 pub mod Schedules
 pub mod Strides
+pub mod Values
 pub mod Waits

@@ -1,5 +1,5 @@
 -- How many points are reached: a bound, in place of the list of them all.
-use Rattle.std.specs.Prelude.{◌≡◌, ◌≢◌, ◌↔◌, ℕ, ◌+◌, ◌≤◌, List, length, All, AllPairs, Contains}
+use Rattle.std.specs.Prelude.{◌≡◌, ◌↔◌, ℕ, ◌+◌, ◌≤◌, List, length, Contains}
 use Rattle.wb_word.specs.declared.sides.Side.{Side}
 use Rattle.wb_word.specs.declared.sides.Side.TheVariants as side
 use Rattle.wb_rom.specs.declared.images.Image.{Image}
@@ -24,19 +24,19 @@ PointsAreReachedOnTheirSide =
     → IsReachedOn (image_of a b s) s n k shape power p
     ↔ (IsReached a b n k shape power p × (p.side ≡ s))
 
--- Where a list holds every reached point, no more points are reached than it has.
+-- Where a list of at most p points holds every reached point, at most p points are reached.
 abbrev pub ListsBoundReachedPoints : Type 0
 ListsBoundReachedPoints =
-    (a b : Image) (n k : ℕ) (shape : List Letter) (power : Power) (points : List Point)
-    → ((p : Point) → IsReached a b n k shape power p → Contains points p)
-    → ReachedAtMost a b n k shape power (length points)
+    (a b : Image) (n k : ℕ) (shape : List Letter) (power : Power) (points : List Point) (p : ℕ)
+    → ((x : Point) → IsReached a b n k shape power x → Contains points x)
+    → length points ≤ p → ReachedAtMost a b n k shape power p
 
 -- The same of one side.
 abbrev pub ListsBoundPointsOfASide : Type 0
 ListsBoundPointsOfASide =
-    (image : Image) (s : Side) (n k : ℕ) (shape : List Letter) (power : Power) (points : List Point)
-    → ((p : Point) → IsReachedOn image s n k shape power p → Contains points p)
-    → ReachedAtMostOn image s n k shape power (length points)
+    (image : Image) (s : Side) (n k : ℕ) (shape : List Letter) (power : Power) (points : List Point) (p : ℕ)
+    → ((x : Point) → IsReachedOn image s n k shape power x → Contains points x)
+    → length points ≤ p → ReachedAtMostOn image s n k shape power p
 
 -- Where at most p points are reached, at most any greater number are.
 abbrev pub GreaterBoundsHold : Type 0
@@ -63,9 +63,3 @@ BoundsOfSidesAddUp =
     (a b : Image) (n k : ℕ) (shape : List Letter) (power : Power) (p q : ℕ)
     → ReachedAtMostOn a side.A n k shape power p → ReachedAtMostOn b side.B n k shape power q
     → ReachedAtMost a b n k shape power (p + q)
-
--- Values that differ from one another and stand in a list are no more than this list has.
-abbrev pub DifferentValuesAreNoMore : Type 0 → Type 0
-DifferentValuesAreNoMore A =
-    (xs ys : List A)
-    → AllPairs (λ x y. x ≢ y) xs → All (Contains ys) xs → length xs ≤ length ys

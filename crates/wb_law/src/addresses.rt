@@ -1,10 +1,7 @@
 //! The addresses that held runs execute, by their points.
-ghost use Rattle.wb_law.specs.Addresses.{PointsTellWhatComes, ExecutedAddressesAreShown, ShownAddressesAreExecuted, ReachedPointsShowTheExecuted};
+ghost use Rattle.wb_law.specs.Addresses.{ExecutedAddressesAreShown, ShownAddressesAreExecuted, ReachedPointsShowTheExecuted};
 
-/// The point of a moment tells whether its held chip rests, and how it stops.
-pub fn points_tell_what_comes()
-    ensures { PointsTellWhatComes }
-{}
+use wb_port::{fronts_fit, status_reads_always_fit};
 
 /// Each executed address is shown by a point.
 pub fn executed_addresses_are_shown()
@@ -19,4 +16,7 @@ pub fn shown_addresses_are_executed()
 /// Some fitting dialogue executes an address exactly where some reached point shows it.
 pub fn reached_points_show_the_executed()
     ensures { ReachedPointsShowTheExecuted }
-{}
+{
+    fronts_fit();
+    status_reads_always_fit();
+}

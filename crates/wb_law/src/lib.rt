@@ -11,15 +11,22 @@
 //! - `requests`: the chips at which accesses are given, and what the observer shows there.
 //! - `strides`: where the strides of a chip lead, and that they lead there in one way.
 //! - `points`: held chips, the rank that each instruction raises, and the points that a held run passes.
+//! - `ranges`: a chip on its way from one access to the next is in its ranges.
+//! - `classes`: what a held chip does next, and its rank, by its point: the two calls of this crate.
 //! - `reached`: how many points the held runs of all fitting dialogues pass.
 //! - `waits` and `addresses`: where held runs are answered, and which addresses they execute.
+//! - `values`: two laws on any values and numbers.
 //! - `counts`: a chip to which events are applied one by one, whose count is held at its greatest number.
 #![tactic(auto)]
 
 mod addresses;
+#[cfg(test)]
+mod class_tests;
+mod classes;
 mod counts;
 mod facts;
 mod points;
+mod ranges;
 mod reached;
 mod requests;
 mod runs;
@@ -27,12 +34,13 @@ mod schedules;
 mod strides;
 #[cfg(test)]
 mod tests;
+mod values;
 mod waits;
 
 pub use addresses::{
-    executed_addresses_are_shown, points_tell_what_comes, reached_points_show_the_executed,
-    shown_addresses_are_executed,
+    executed_addresses_are_shown, reached_points_show_the_executed, shown_addresses_are_executed,
 };
+pub use classes::{Class, class_at, points_tell_what_comes, rank_at};
 pub use counts::{
     applied_chips_are_held_at_the_greatest_count, counts_are_at_most_the_steps,
     short_schedules_hold_nothing,
@@ -41,10 +49,11 @@ pub use points::{
     held_chips_stay_in_pace, last_points_are_passed_after_all, points_are_passed_after_accesses,
     ranks_are_once, ranks_rise,
 };
+pub use ranges::striding_chips_stay_in_range;
 pub use reached::{
-    bounds_hold_of_each_side, bounds_of_sides_add_up, different_values_are_no_more,
-    greater_bounds_hold, greater_bounds_hold_of_a_side, lists_bound_points_of_a_side,
-    lists_bound_reached_points, points_are_reached_on_their_side, status_reads_pass_no_point,
+    bounds_hold_of_each_side, bounds_of_sides_add_up, greater_bounds_hold,
+    greater_bounds_hold_of_a_side, lists_bound_points_of_a_side, lists_bound_reached_points,
+    points_are_reached_on_their_side, status_reads_pass_no_point,
 };
 pub use requests::{
     first_requests_are_fresh, fresh_requests_are_first, given_chips_are_one,
@@ -64,4 +73,5 @@ pub use strides::{
     resting_chips_dont_stop, resting_chips_stay, rests_are_one, stopped_chips_stay, stops_are_one,
     strides_add_up, strides_are_one_walk, strides_begin_with_an_instruction, strides_keep_pace,
 };
+pub use values::{different_values_are_no_more, least_numbers_exist};
 pub use waits::{held_runs_are_answered_at_polls, waits_are_one};

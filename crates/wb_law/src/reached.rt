@@ -1,5 +1,5 @@
 //! How many points are reached: bounds, and what they are counted by.
-ghost use Rattle.wb_law.specs.Reached.{StatusReadsPassNoPoint, PointsAreReachedOnTheirSide, ListsBoundReachedPoints, ListsBoundPointsOfASide, GreaterBoundsHold, GreaterBoundsHoldOfASide, BoundsHoldOfEachSide, BoundsOfSidesAddUp, DifferentValuesAreNoMore};
+ghost use Rattle.wb_law.specs.Reached.{StatusReadsPassNoPoint, PointsAreReachedOnTheirSide, ListsBoundReachedPoints, ListsBoundPointsOfASide, GreaterBoundsHold, GreaterBoundsHoldOfASide, BoundsHoldOfEachSide, BoundsOfSidesAddUp};
 
 /// Leaving status reads out changes no point of a held run.
 pub fn status_reads_pass_no_point()
@@ -39,9 +39,4 @@ pub fn bounds_hold_of_each_side()
 /// The bounds of the two sides add up.
 pub fn bounds_of_sides_add_up()
     ensures { BoundsOfSidesAddUp }
-{}
-
-/// Values of any type that are different from one another and stand in a list are no more than this list has.
-pub fn different_values_are_no_more<T>()
-    ensures { DifferentValuesAreNoMore T }
 {}

@@ -1,5 +1,6 @@
 // Schedules of lazy hosts, event by event, beside the run of the eager host that holds the same talk.
 use std::alloc::Global;
+use std::process::Abort;
 use std::test::Fail;
 use wb_port::{Access, Chip, Dialogue, Event, Replies, Run, replay, requested};
 use wb_rom::Image;
@@ -19,27 +20,30 @@ const LOOP: &[u32] = &[
 ];
 
 // A byte is given back, and the chip waits for it in a loop of eight words.
-const EIGHT_WORDS: &[u32] = &[
+pub(crate) const EIGHT_WORDS: &[u32] = &[
     0xC10007, 0x000080, 0, 0, 0, 0, 0, 0, 0, 0x97C008, 0x000091, 0x000016, 0x97C030, 0xA00004,
 ];
 
-const BYTES: &[Access] = &[
-    Access::Write(0x5A),
-    Access::Read,
-    Access::Write(0xC3),
-    Access::Read,
+/// An access, the status byte that is read while its request stands, and the byte that the access gives.
+type Turn = (Access, u8, Option<u8>);
+
+const BYTES: [Turn; 4] = [
+    (Access::Write(0x5A), 0x84, None),
+    (Access::Read, 0x84, Some(0x5A)),
+    (Access::Write(0xC3), 0x84, None),
+    (Access::Read, 0x84, Some(0xC3)),
 ];
 
-// Two halves of a word are written, and both are read.
-const HALVES: &[Access] = &[
-    Access::Write(0x34),
-    Access::Write(0x12),
-    Access::Read,
-    Access::Read,
+// Two halves of a word are written, and both are read: DRS shows between them.
+const HALVES: [Turn; 4] = [
+    (Access::Write(0x34), 0x80, None),
+    (Access::Write(0x12), 0x90, None),
+    (Access::Read, 0x80, Some(0x34)),
+    (Access::Read, 0x90, Some(0x12)),
 ];
 
 /// The image with these words, and zeros after them.
-fn image_of(alloc: Global, words: &[u32]) -> Result<Image, Fail> {
+pub(crate) fn image_of(alloc: Global, words: &[u32]) -> Result<Image, Fail> {
     let mut bytes = Vec::new(alloc);
     for word in words {
         bytes.extend_from_slice(&word.to_le_bytes()[..3])?;
@@ -101,63 +105,81 @@ impl Course {
     }
 }
 
-/// A host that gives each access so many instructions after it finds a request.
+/// A host that gives each access so many instructions after it finds a request. One that looks reads the status
+/// before each instruction and before each access.
 fn lazy_course(
     alloc: Global,
     image: &Image,
-    accesses: &[Access],
+    turns: &[Turn],
     lazy: u32,
     looks: bool,
 ) -> Result<Course, Fail> {
     let mut course = Course::new(alloc);
-    for access in accesses {
+    for (access, _, _) in turns {
         course.request(image, looks)?;
         course.instructions(image, lazy, looks)?;
+        if looks {
+            course.access(image, Access::Status)?;
+        }
         course.access(image, *access)?;
     }
     Ok(course)
 }
 
-#[test]
-fn lazy_hosts_hold_the_talks_of_eager_ones(rt: HostRuntime) -> Result<(), Fail> {
-    let alloc = rt.alloc();
-    let images = [
-        (WORK, BYTES, 6),
-        (WIDE, HALVES, 4),
-        (LOOP, BYTES, 5),
-        (EIGHT_WORDS, BYTES, 5),
-    ];
-    for (words, accesses, pace) in images {
-        let image = image_of(alloc, words)?;
-        for lazy in 0..21 {
-            for looks in [false, true] {
-                let course = lazy_course(alloc, &image, accesses, lazy, looks)?;
-                assert_eq!(rt; course.chip.monitor.breach, None);
-                let run = replay(alloc, &image, &course.talk, pace, false)?;
-                let replies = match &run {
-                    Run::Answered(replies) => replies.bytes(),
-                    _ => &[],
-                };
-                assert_eq!(rt; replies, course.said.bytes(), "{lazy} instructions late");
+/// What such a host hears: a status byte for each look while the request stands, and what the accesses give.
+fn bytes_heard(alloc: Global, turns: &[Turn], lazy: u32, looks: bool) -> Result<Vec<u8>, Fail> {
+    let mut bytes = Vec::new(alloc);
+    for (_, status, reply) in turns {
+        if looks {
+            for _ in 0..=lazy {
+                bytes.push(*status)?;
             }
         }
+        if let Some(byte) = reply {
+            bytes.push(*byte)?;
+        }
     }
+    Ok(bytes)
+}
+
+/// The schedule saw no breach and said these bytes, and so does the run of the eager host that holds its talk.
+fn check_course(
+    rt: &impl Abort,
+    alloc: Global,
+    image: &Image,
+    course: &Course,
+    pace: u16,
+    bytes: &[u8],
+) -> Result<(), Fail> {
+    assert_eq!(rt; course.chip.monitor.breach, None);
+    assert_eq!(rt; course.said.bytes(), bytes);
+    assert!(rt; pace >= 1);
+    let run = replay(alloc, image, &course.talk, pace, false)?;
+    let replies = match &run {
+        Run::Answered(replies) => replies.bytes(),
+        _ => &[],
+    };
+    assert_eq!(rt; replies, bytes);
     Ok(())
 }
 
 #[test]
-fn lazy_hosts_hear_what_they_wrote(rt: HostRuntime) -> Result<(), Fail> {
+fn lazy_hosts_hear_what_eager_hosts_hear(rt: HostRuntime) -> Result<(), Fail> {
     let alloc = rt.alloc();
-    let rows: [(&[u32], &[Access], &[u8]); 3] = [
-        (WORK, BYTES, &[0x5A, 0xC3]),
-        (WIDE, HALVES, &[0x34, 0x12]),
-        (EIGHT_WORDS, BYTES, &[0x5A, 0xC3]),
+    let images = [
+        (WORK, &BYTES, 6),
+        (WIDE, &HALVES, 4),
+        (LOOP, &BYTES, 5),
+        (EIGHT_WORDS, &BYTES, 5),
     ];
-    for (words, accesses, bytes) in rows {
+    for (words, turns, pace) in images {
         let image = image_of(alloc, words)?;
-        for lazy in [0, 3, 20] {
-            let course = lazy_course(alloc, &image, accesses, lazy, false)?;
-            assert_eq!(rt; course.said.bytes(), bytes);
+        for lazy in [0, 1, 2, 3, 7, 20] {
+            for looks in [false, true] {
+                let course = lazy_course(alloc, &image, turns, lazy, looks)?;
+                let bytes = bytes_heard(alloc, turns, lazy, looks)?;
+                check_course(&rt, alloc, &image, &course, pace, &bytes)?;
+            }
         }
     }
     Ok(())

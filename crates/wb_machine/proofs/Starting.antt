@@ -1,9 +1,9 @@
 -- A chip at power-up is in its ranges.
-use Rattle.std.proofs.Common.{◌≡◌, ℕ, ◌<◌, ◌^◌, List, replicate, length, All, arith, lit<, subst, sym}
+use Rattle.std.proofs.Common.{ℕ, ◌<◌, replicate, arith, lit<}
 use Rattle.std.specs.Prelude.{slice_index}
 use Rattle.std.proofs.lemmas.List.{length-replicate}
 use Rattle.std.proofs.lemmas.List.Elements.{All-replicate}
-use Rattle.wb_machine.specs.State.{IsRegs, IsStart, IsState, first_regs, power}
+use Rattle.wb_machine.specs.State.{IsRegs, first_regs, power}
 use Rattle.wb_machine.specs.Parts.{StartsAreInRange}
 
 first_in : IsRegs first_regs

@@ -1,8 +1,10 @@
--- `next` register by register, and the ranges that it keeps.
-use Rattle.std.specs.Prelude.{◌≡◌, ℕ, List}
+-- `next` register by register, the bits of SR that a move writes, and the ranges that `next` keeps.
+use Rattle.std.specs.Prelude.{◌≡◌, ℕ, ◌<◌, ◌/◌, ◌%◌, ◌^◌, Bool, ◌==◌, if◌then◌else◌, List, [], ◌∷◌}
+use Rattle.std.specs.List.{list_any}
+use Rattle.wb_word.specs.declared.codes.Dst.TheVariants as dst
 use Rattle.wb_rom.specs.declared.images.Image.{Image}
 use Rattle.wb_machine.specs.State.{State, IsState, IsStart, power}
-use Rattle.wb_machine.specs.Next.{instr_at, next, pc_after, sp_after, rp_after, dp_after, a_after, b_after, tr_after, trb_after, k_after, l_after, dr_after, sr_after, so_after, flags_a_after, flags_b_after, stack_after, ram_after}
+use Rattle.wb_machine.specs.Next.{instr_at, next, target, carried, raised_in, pc_after, sp_after, rp_after, dp_after, a_after, b_after, tr_after, trb_after, k_after, l_after, dr_after, sr_after, so_after, flags_a_after, flags_b_after, stack_after, ram_after}
 
 -- each part of the state after an instruction is its own definition, of the instruction and the state before it
 pub record GoesOn (image : Image) (s : State) : Type 0 where
@@ -23,6 +25,24 @@ pub record GoesOn (image : Image) (s : State) : Type 0 where
   pub flags_b : (next image s).regs.flags_b ≡ flags_b_after (instr_at image s) image s
   pub stack : (next image s).stack ≡ stack_after (instr_at image s) s
   pub ram : (next image s).ram ≡ ram_after (instr_at image s) image s
+
+-- the bits of SR that a move writes; the others are RQM, DRS and those that have no name
+abbrev pub written_bits : List ℕ
+written_bits = 14 ∷ 13 ∷ 11 ∷ 10 ∷ 9 ∷ 8 ∷ 7 ∷ 1 ∷ 0 ∷ []
+
+abbrev pub is_written : ℕ → Bool
+is_written bit = list_any (λ written. bit == written) written_bits
+
+-- a bit of a number, the lowest being bit 0
+abbrev pub bit_of : ℕ → ℕ → ℕ
+bit_of n bit = n / 2 ^ bit % 2
+
+-- A move to SR writes those of its 16 bits that a move writes, and keeps the others as the source left them.
+abbrev pub MovesToSrGoByBits : Type 0
+MovesToSrGoByBits =
+    (image : Image) (s : State) (bit : ℕ) → target (instr_at image s) ≡ dst.Sr → bit < 16
+    → bit_of (next image s).regs.sr bit
+    ≡ bit_of (if is_written bit then carried (instr_at image s) image s else raised_in (instr_at image s) s.regs.sr) bit
 
 -- Each part of the state goes on by its own definition.
 abbrev pub PartsGoOnAlone : Type 0

@@ -1,4 +1,4 @@
-ghost use Rattle.std.specs.Prelude.{◌≡◌, ◌<◌, ◌/◌, ◌%◌, ◌^◌, bit_xor};
+ghost use Rattle.std.specs.Prelude.{◌≡◌, ◌<◌, ◌/◌, bit_xor};
 ghost use Rattle.wb_machine.specs.Effects.{calculated, moved, pointed, source_raised};
 ghost use Rattle.wb_machine.specs.Next.{dp_stepped, merged, moved_ram, low_stepped, product, raised, rp_stepped};
 ghost use Rattle.wb_alu.specs.Operation.{signed};

@@ -27,8 +27,8 @@ impl Model for Machine {
 }
 
 impl Machine {
-    ghost use Rattle.std.specs.Prelude.{◌≡◌, ◌<◌, ◌^◌, length, slice_index};
-    ghost use Rattle.wb_machine.specs.State.{IsRegs, IsState, power, reset};
+    ghost use Rattle.std.specs.Prelude.{◌≡◌, ◌<◌, length, slice_index};
+    ghost use Rattle.wb_machine.specs.State.{IsState, power, reset};
     ghost use Rattle.wb_machine.specs.Effects.{advanced, branched, called, jumped, loaded, operated, returned};
     ghost use Rattle.wb_machine.specs.Next.{bus_of, computed, computed_flags, next, operand};
 

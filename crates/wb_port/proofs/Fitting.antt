@@ -1,6 +1,5 @@
 -- What fits still fits up to any access, and with or without status reads.
-use Rattle.std.proofs.Common.{◌≡◌, ℕ, ◌+◌, ◌≤◌, List, [], ◌∷◌, ◌++◌, length, length-append, All, refl, sym, ap, subst, ◌∙◌, arith}
-use Rattle.std.specs.Prelude.{◌↔◌}
+use Rattle.std.proofs.Common.{◌≡◌, ◌+◌, ◌≤◌, List, [], ◌∷◌, ◌++◌, length, length-append, refl, sym, ap, subst, ◌∙◌, arith}
 use Rattle.std.specs.List.{AllByRecursion}
 use Rattle.std.proofs.lemmas.List.Elements.{recursion_from_All, All-from_recursion}
 use Rattle.wb_port.specs.declared.accesses.Access.{Access}
@@ -67,23 +66,22 @@ bytes_back (access.Read ∷ xs) h = (tt, bytes_back xs h.1)
 bytes_back (access.Write b ∷ xs) h = (h.0, bytes_back xs h.1)
 
 pub status_reads_fit : StatusReadsAlwaysFit
-status_reads_fit n shape power start accesses =
-    (
-      λ f. record {
-        short = subst (λ (ks : List Kind). length ks ≤ n) (sym (no_kind accesses)) f.short;
-        shaped = subst (AllowsEach shape) (sym (no_kind accesses)) f.shaped;
-        powered = f.powered;
-        start_in = f.start_in;
-        bytes_in = All-from_recursion IsByteAccess (transfers_of accesses) (bytes_left accesses (recursion_from_All IsByteAccess accesses f.bytes_in));
-      },
-      λ f. record {
-        short = subst (λ (ks : List Kind). length ks ≤ n) (no_kind accesses) f.short;
-        shaped = subst (AllowsEach shape) (no_kind accesses) f.shaped;
-        powered = f.powered;
-        start_in = f.start_in;
-        bytes_in = All-from_recursion IsByteAccess accesses (bytes_back accesses (recursion_from_All IsByteAccess (transfers_of accesses) f.bytes_in));
-      },
-    )
+status_reads_fit n shape power start accesses = (
+  λ f. record {
+    short = subst (λ (ks : List Kind). length ks ≤ n) (sym (no_kind accesses)) f.short;
+    shaped = subst (AllowsEach shape) (sym (no_kind accesses)) f.shaped;
+    powered = f.powered;
+    start_in = f.start_in;
+    bytes_in = All-from_recursion IsByteAccess (transfers_of accesses) (bytes_left accesses (recursion_from_All IsByteAccess accesses f.bytes_in));
+  },
+  λ f. record {
+    short = subst (λ (ks : List Kind). length ks ≤ n) (no_kind accesses) f.short;
+    shaped = subst (AllowsEach shape) (no_kind accesses) f.shaped;
+    powered = f.powered;
+    start_in = f.start_in;
+    bytes_in = All-from_recursion IsByteAccess accesses (bytes_back accesses (recursion_from_All IsByteAccess (transfers_of accesses) f.bytes_in));
+  },
+)
 
 all_left : (xs : List Access) → AllByRecursion IsTransfer (transfers_of xs)
 all_left [] = tt
@@ -114,8 +112,7 @@ all_before (a ∷ []) x h = (h.0, tt)
 all_before (a ∷ b ∷ xs) x h = (h.0, all_before (b ∷ xs) x h.1)
 
 pub lasts_may_be_status : LastsMayBeStatus
-lasts_may_be_status front last =
-    (
-      λ h. All-from_recursion IsTransfer front (all_before front last h),
-      λ h. only_last front last (recursion_from_All IsTransfer front h),
-    )
+lasts_may_be_status front last = (
+  λ h. All-from_recursion IsTransfer front (all_before front last h),
+  λ h. only_last front last (recursion_from_All IsTransfer front h),
+)

@@ -1,9 +1,9 @@
 -- The way from a poll to the test of its loop; loops are one.
-use Rattle.std.proofs.Common.{◌≡◌, ℕ, zero, suc, ◌+◌, ◌<◌, inl, inr, true, false, refl, sym, ◌∙◌, ap, subst, arith}
+use Rattle.std.proofs.Common.{◌≡◌, ℕ, suc, ◌+◌, ◌<◌, inl, inr, true, false, refl, sym, ◌∙◌, ap, subst, arith}
 use Rattle.std.proofs.lemmas.Bool.{cases_order, both_ways}
 use Rattle.wb_rom.specs.declared.images.Image.{Image}
-use Rattle.wb_port.specs.Wait.{is_test, is_poll, word_of, follow, follow_times, to_gate}
-use Rattle.wb_port.proofs.Circles.{IsWaitLoop, is_loop_of, turned_loop, loop_poll, follow_poll, nearer, gate_near}
+use Rattle.wb_port.specs.Wait.{is_test, is_poll, word_of, follow, to_gate}
+use Rattle.wb_port.proofs.Circles.{IsWaitLoop, is_loop_of, follow_poll, nearer, gate_near}
 use Rattle.wb_port.proofs.Walks.{returned_before}
 
 pub at_gate : (image : Image) (at : ℕ) → is_test (word_of image at) ≡ true → to_gate image at ≡ 0

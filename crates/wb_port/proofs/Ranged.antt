@@ -1,11 +1,10 @@
 -- The parts of a chip stay in their ranges.
-use Rattle.std.proofs.Common.{◌≡◌, ℕ, zero, suc, ◌+◌, ◌*◌, ◌/◌, ◌%◌, ◌<◌, ◌^◌, Bool, true, false, List, [], ◌∷◌, refl, sym, subst, arith}
+use Rattle.std.proofs.Common.{ℕ, zero, suc, ◌<◌, Bool, true, false, List, [], ◌∷◌, subst, arith}
 use Rattle.std.specs.List.{AllByRecursion}
 use Rattle.std.proofs.lemmas.List.Elements.{recursion_from_All}
 use Rattle.wb_rom.specs.declared.images.Image.{Image}
 use Rattle.wb_machine.specs.State.{State, IsRegs, IsState}
 use Rattle.wb_machine.specs.Parts.{RangesAreKept, StartsAreInRange}
-use Rattle.wb_port.specs.declared.accesses.Access.{Access}
 use Rattle.wb_port.specs.declared.accesses.Access.TheVariants as access
 use Rattle.wb_port.specs.declared.accesses.Event.{Event}
 use Rattle.wb_port.specs.declared.accesses.Event.TheVariants as event

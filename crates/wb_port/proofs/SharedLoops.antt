@@ -1,10 +1,9 @@
 -- Wait loops that have an address in common are the same loop.
-use Rattle.std.proofs.Common.{◌≡◌, ℕ, zero, suc, ◌+◌, ◌-◌, ◌*◌, ◌<◌, ◌≤◌, refl, sym, ◌∙◌, ap, subst, arith, mul-le-mul_left}
-use Rattle.std.specs.Prelude.{◌↔◌}
+use Rattle.std.proofs.Common.{◌≡◌, ℕ, zero, suc, ◌+◌, ◌-◌, ◌*◌, ◌<◌, ◌≤◌, sym, ◌∙◌, ap, subst, arith}
 use Rattle.wb_rom.specs.declared.images.Image.{Image}
 use Rattle.wb_port.specs.Wait.{follow, follow_times}
-use Rattle.wb_port.specs.Endings.{IsLoopOf, IsPlaceOf, SameLoop, LoopsShareNoAddress}
-use Rattle.wb_port.proofs.Circles.{IsWaitLoop, loop_of, is_loop_of, loop_poll, turned_loop}
+use Rattle.wb_port.specs.Endings.{IsPlaceOf, LoopsShareNoAddress}
+use Rattle.wb_port.proofs.Circles.{IsWaitLoop, loop_of, turned_loop}
 use Rattle.wb_port.proofs.Gates.{one_loop}
 
 -- each address of a loop begins the same loop
@@ -45,8 +44,7 @@ crossed image at m other place y l here there h =
     let j = there.0 in
     let t = h.0 in
     let again : follow_times image (m * i - i) place ≡ at =
-    subst (λ (x : ℕ). follow_times image (m * i - i) x ≡ at) here.1 (first_again image at m i l) in
-    (
+    subst (λ (x : ℕ). follow_times image (m * i - i) x ≡ at) here.1 (first_again image at m i l) in (
       j + ((m * i - i) + t),
       follow_sum image j ((m * i - i) + t) other
           ∙ ap (follow_times image ((m * i - i) + t)) there.1

@@ -1,4 +1,4 @@
--- A dialogue without accesses from a RAM of zeros is lawful.
+-- A dialogue from a RAM of zeros is lawful.
 use Rattle.std.proofs.Common.{◌≡◌, ℕ, ◌<◌, List, [], All, replicate, lit<, sym, subst, arith}
 use Rattle.std.proofs.lemmas.List.{length-replicate}
 use Rattle.std.proofs.lemmas.List.Elements.{All-replicate}
@@ -15,6 +15,8 @@ zeros = record {
 no_accesses : All IsByteAccess []
 no_accesses k d less = absurd (let none : k < 0 = less in omega arith)
 
+pub zero_talk : (accesses : List Access) → All IsByteAccess accesses → IsTalk (record { start = replicate 256 0; accesses = accesses })
+zero_talk accesses bytes = record { start_in = zeros; bytes_in = bytes }
+
 pub first_talk : (accesses : List Access) → accesses ≡ [] → IsTalk (record { start = replicate 256 0; accesses = accesses })
-first_talk accesses e =
-    record { start_in = zeros; bytes_in = subst (All IsByteAccess) (sym e) no_accesses }
+first_talk accesses e = zero_talk accesses (subst (All IsByteAccess) (sym e) no_accesses)

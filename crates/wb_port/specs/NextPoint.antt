@@ -12,7 +12,7 @@ use Rattle.wb_port.specs.declared.points.Point.{Point}
 use Rattle.wb_port.specs.declared.points.Shown.{Shown}
 use Rattle.wb_port.specs.Port.{rqm, drs}
 use Rattle.wb_port.specs.Wait.{raises_request, word_of}
-use Rattle.wb_port.specs.Monitor.{count_after, idles_at, leaves_at, stepped}
+use Rattle.wb_port.specs.Monitor.{count_after, idles_at, leaves_at}
 use Rattle.wb_port.specs.Schedule.{applied}
 use Rattle.wb_port.specs.Points.{point_at}
 
@@ -40,14 +40,14 @@ point_given kind m p = showing m (record p { kinds = p.kinds ++ kind ∷ [] })
 -- the points of a chip before and after each event
 pub record GoesOnBy (image : Image) (s : Side) (kinds : List Kind) (c : Chip) : Type 0 where
   pub step :
-    point_at s kinds (applied image event.Step c)
-    ≡ point_stepped image (shown_of (applied image event.Step c).machine) (point_at s kinds c)
+      point_at s kinds (applied image event.Step c)
+      ≡ point_stepped image (shown_of (applied image event.Step c).machine) (point_at s kinds c)
   pub read :
-    point_at s (kinds ++ kind.Read ∷ []) (applied image (event.Host access.Read) c)
-    ≡ point_given kind.Read (shown_of (applied image (event.Host access.Read) c).machine) (point_at s kinds c)
+      point_at s (kinds ++ kind.Read ∷ []) (applied image (event.Host access.Read) c)
+      ≡ point_given kind.Read (shown_of (applied image (event.Host access.Read) c).machine) (point_at s kinds c)
   pub write : (byte : ℕ)
-    → point_at s (kinds ++ kind.Write ∷ []) (applied image (event.Host (access.Write byte)) c)
-    ≡ point_given kind.Write (shown_of (applied image (event.Host (access.Write byte)) c).machine) (point_at s kinds c)
+      → point_at s (kinds ++ kind.Write ∷ []) (applied image (event.Host (access.Write byte)) c)
+      ≡ point_given kind.Write (shown_of (applied image (event.Host (access.Write byte)) c).machine) (point_at s kinds c)
   pub status : point_at s kinds (applied image (event.Host access.Status) c) ≡ point_at s kinds c
 
 -- A point goes on by what it was and by what the machine shows then.

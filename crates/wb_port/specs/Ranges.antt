@@ -5,7 +5,6 @@ use Rattle.wb_machine.specs.State.{State, IsState, IsStart}
 use Rattle.wb_port.specs.declared.accesses.Access.{Access}
 use Rattle.wb_port.specs.declared.accesses.Event.{Event}
 use Rattle.wb_port.specs.declared.accesses.Event.TheVariants as event
-use Rattle.wb_port.specs.declared.chips.Chip.{Chip}
 use Rattle.wb_port.specs.Port.{accessed}
 use Rattle.wb_port.specs.Schedule.{powered, after}
 use Rattle.wb_port.specs.Talk.{Talk, IsByteAccess, IsTalk}

@@ -13,8 +13,9 @@ use wb_word::{Addr, Word};
 pub struct Monitor {
     /// Whether a request was raised and no poll has found since that it is over.
     pub asked: bool,
-    /// Instructions since power-up or the last request, with the requesting one and without the idle ones.
-    /// It stays at the greatest number of 64 bits once it is there.
+    /// Instructions since power-up or since the one that raised the last request, after which it is 0. Idle ones
+    /// aren't counted; the one that raises the next request is. It stays at the greatest number of 64 bits once
+    /// it is there.
     pub count: u64,
     /// The address of the first breach that was executed.
     pub breach: Option<Addr>,

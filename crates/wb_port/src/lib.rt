@@ -33,13 +33,14 @@ pub use laws_fits::{
     transfers_are_left, transfers_join_in_order,
 };
 pub use laws_moments::{
-    applied_chips_follow, loops_are_one, loops_are_polls, loops_share_no_address, points_go_on, polls_begin_loops, requests_are_asked,
-    runs_come_to_an_end, trails_hold_the_points, worked_loops,
+    applied_chips_follow, loops_are_one, loops_are_polls, loops_share_no_address, points_go_on,
+    polls_begin_loops, requests_are_asked, runs_come_to_an_end, trails_hold_the_points,
+    worked_loops,
 };
 pub use laws_ranges::{accesses_keep_ranges, runs_keep_ranges, schedules_keep_ranges};
 pub use laws_single::{
-    accesses_raise_nothing, calm_words_commute, calm_words_keep_the_port, gates_are_near, gates_are_tests,
-    idle_instructions_move_alone, loops_have_one_gate, only_raising_words_request,
+    accesses_raise_nothing, calm_words_commute, calm_words_keep_the_port, gates_are_near,
+    gates_are_tests, idle_instructions_move_alone, loops_have_one_gate, only_raising_words_request,
     places_come_nearer, polls_follow_polls, polls_raise_nothing, raising_words_request,
     raising_words_touch, status_reads_change_nothing, tests_are_gates,
 };

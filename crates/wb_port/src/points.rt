@@ -15,7 +15,7 @@ pub struct Point {
     pub side: Side,
     /// The kinds of the data transfers so far.
     pub kinds: Kinds,
-    /// Instructions since power-up or the last request, without the idle ones.
+    /// Instructions since power-up or since the one that raised the last request, after which it is 0.
     pub count: u16,
     pub pc: u16,
     pub sp: u8,

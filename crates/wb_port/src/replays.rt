@@ -64,13 +64,7 @@ impl Progress {
     }
 
     /// One turn of a plain or a held run.
-    pub(crate) fn turn(
-        &mut self,
-        image: &Image,
-        talk: &Dialogue,
-        pace: u16,
-        held: bool,
-    ) -> Turned
+    pub(crate) fn turn(&mut self, image: &Image, talk: &Dialogue, pace: u16, held: bool) -> Turned
         requires paced { self.old.chip.monitor.count ≤ pace }
         requires room { HasRoom talk.now self.old }
         ensures turned { IsTurned result (turn image.now pace held (moment_of talk.now self.old))

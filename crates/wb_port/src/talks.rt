@@ -1,3 +1,6 @@
+ghost use Rattle.std.specs.Prelude.{All};
+ghost use Rattle.wb_port.specs.Talk.{IsByteAccess};
+
 use crate::accesses::Access;
 use std::alloc::Global;
 use std::marker::Model;
@@ -22,7 +25,7 @@ impl Model for Dialogue {
 
 impl Dialogue {
     ghost use Rattle.std.specs.Prelude.{◌≡◌, ◌<◌, [], ◌∷◌, ◌++◌, Some, OnOk, OnErr, length, replicate, slice_get, slice_index};
-    ghost use Rattle.wb_port.specs.Talk.{Talk, IsTalk};
+    ghost use Rattle.wb_port.specs.Talk.{dialogue, Talk, IsTalk};
 
     /// No accesses, from a RAM of zeros.
     pub fn new(alloc: Global) -> Self
@@ -31,6 +34,17 @@ impl Dialogue {
         Dialogue {
             start: [0; 256],
             accesses: Vec::new(alloc),
+        }
+    }
+
+    /// These accesses, from a RAM of zeros. It takes no memory.
+    pub fn from_vec(accesses: Vec<Access>) -> Self
+        ensures { result ≡ dialogue (replicate 256 0) accesses.items }
+    {
+        see_bytes(&accesses);
+        Dialogue {
+            start: [0; 256],
+            accesses,
         }
     }
 
@@ -88,5 +102,24 @@ impl Dialogue {
         ensures lawful { IsTalk self.now }
     {
         &self.start
+    }
+}
+
+/// The written bytes are bytes. Nothing is done: to look at each access is to know it.
+fn see_bytes(accesses: &[Access])
+    ensures { All IsByteAccess accesses.now }
+{
+    for access in accesses {
+        see_byte(*access);
+    }
+}
+
+/// A written byte is a byte.
+fn see_byte(access: Access)
+    ensures { IsByteAccess access }
+{
+    match access {
+        Access::Status | Access::Read => {},
+        Access::Write(_byte) => {},
     }
 }

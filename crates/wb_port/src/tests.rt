@@ -1,3 +1,6 @@
+mod points;
+mod runs;
+
 use crate::{
     Access, Chip, Dialogue, Event, Letter, Run, Shape, Side, follow, is_poll, points_passed,
     replay, requested, to_gate,
@@ -115,13 +118,9 @@ const CASES: [Case; 22] = [
 fn image_of(alloc: Global, words: &[u32]) -> Result<Image, Fail> {
     let mut bytes = Vec::new(alloc);
     for word in words {
-        bytes.push((*word & 0xFF) as u8)?;
-        bytes.push((*word >> 8 & 0xFF) as u8)?;
-        bytes.push((*word >> 16 & 0xFF) as u8)?;
+        bytes.extend_from_slice(&word.to_le_bytes()[..3])?;
     }
-    for _ in bytes.len()..8192 {
-        bytes.push(0)?;
-    }
+    bytes.resize(8192, 0)?;
     Ok(Image::from_bytes(alloc, &bytes)?)
 }
 
@@ -146,29 +145,11 @@ fn is_wanted(run: &Run, want: &Want) -> bool {
     }
 }
 
-/// Executes instructions until a request stands, at most so many.
-fn wait(chip: &mut Chip, image: &Image, most: u32) {
-    for _ in 0..most {
-        if requested(&chip.machine) {
-            return;
-        }
+/// Executes so many instructions.
+fn step(chip: &mut Chip, image: &Image, count: u32) {
+    for _ in 0..count {
         chip.apply(image, Event::Step);
     }
-}
-
-/// The reply of a host that waits so many instructions before each access, to a write of 5A and a read.
-fn lazy_reply(image: &Image, lazy: u32) -> Option<u8> {
-    let mut chip = Chip::reset();
-    wait(&mut chip, image, 20);
-    for _ in 0..lazy {
-        chip.apply(image, Event::Step);
-    }
-    chip.apply(image, Event::Host(W5A));
-    wait(&mut chip, image, 20);
-    for _ in 0..lazy {
-        chip.apply(image, Event::Step);
-    }
-    chip.apply(image, Event::Host(R))
 }
 
 /// Each run of a table ends as the table says.
@@ -207,17 +188,6 @@ fn check_polls(rt: &impl Abort, alloc: Global, places: &[Place]) -> Result<(), F
     Ok(())
 }
 
-/// Hosts that wait get from the image what a host that doesn't gets.
-fn check_lazy(rt: &impl Abort, alloc: Global, images: &[&[u32]]) -> Result<(), Fail> {
-    for words in images {
-        let image = image_of(alloc, words)?;
-        for lazy in 0..9 {
-            assert_eq!(rt; lazy_reply(&image, lazy), Some(0x5A));
-        }
-    }
-    Ok(())
-}
-
 /// The run of a read from a RAM whose first word is 12C3.
 fn started_run(alloc: Global, image: &Image) -> Result<Run, Fail> {
     let mut talk = dialogue_of(alloc, &[R])?;
@@ -238,21 +208,15 @@ fn polls_are_those_of_the_table(rt: HostRuntime) -> Result<(), Fail> {
 }
 
 #[test]
-fn lazy_hosts_get_what_eager_hosts_get(rt: HostRuntime) -> Result<(), Fail> {
-    check_lazy(&rt, rt.alloc(), &[ECHO, WORK, LOOP, LOOPN])
-}
-
-#[test]
 fn a_schedule_with_work_before_the_poll(rt: HostRuntime) -> Result<(), Fail> {
     let image = image_of(rt.alloc(), WORK)?;
     let mut chip = Chip::reset();
-    for _ in 0..3 {
-        chip.apply(&image, Event::Step);
-    }
+    // Three instructions come to the first of three words of work, and five more to the next request.
+    step(&mut chip, &image, 3);
     assert_eq!(rt; chip.monitor.count, 1);
     assert_eq!(rt; chip.apply(&image, Event::Host(W5A)), None);
-    wait(&mut chip, &image, 20);
-    assert_eq!(rt; chip.monitor.count, 0);
+    step(&mut chip, &image, 5);
+    assert_eq!(rt; chip.copy().monitor.count, 0);
     assert_eq!(rt; chip.apply(&image, Event::Host(R)), Some(0x5A));
     Ok(())
 }
@@ -261,9 +225,7 @@ fn a_schedule_with_work_before_the_poll(rt: HostRuntime) -> Result<(), Fail> {
 fn the_first_breach_is_kept(rt: HostRuntime) -> Result<(), Fail> {
     let image = image_of(rt.alloc(), PEEK)?;
     let mut chip = Chip::reset();
-    for _ in 0..4 {
-        chip.apply(&image, Event::Step);
-    }
+    step(&mut chip, &image, 4);
     assert_eq!(rt; chip.monitor.breach, Some(address(2)?));
     Ok(())
 }
@@ -289,17 +251,6 @@ fn an_eight_word_loop_is_followed(rt: HostRuntime) -> Result<(), Fail> {
 }
 
 #[test]
-fn runs_pass_their_points(rt: HostRuntime) -> Result<(), Fail> {
-    let alloc = rt.alloc();
-    let image = image_of(alloc, ECHO)?;
-    let points = points_passed(alloc, &image, Side::A, &Dialogue::new(alloc), 2)?;
-    assert_eq!(rt; points.len(), 3);
-    let read = dialogue_of(alloc, &[R])?;
-    assert_eq!(rt; points_passed(alloc, &image, Side::A, &read, 3)?.len(), 7);
-    Ok(())
-}
-
-#[test]
 fn a_start_shows_in_the_replies(rt: HostRuntime) -> Result<(), Fail> {
     let alloc = rt.alloc();
     let image = image_of(alloc, MEMORY)?;
@@ -310,8 +261,12 @@ fn a_start_shows_in_the_replies(rt: HostRuntime) -> Result<(), Fail> {
 
 #[test]
 fn shapes_keep_their_letters(rt: HostRuntime) -> Result<(), Fail> {
-    let shape = Shape::from_letters(&[Letter::W, Letter::R])?;
-    assert_eq!(rt; shape.len(), 2);
-    assert_eq!(rt; shape.letter_at(1), Letter::R);
+    let letters = [Letter::W, Letter::R, Letter::X, Letter::X].repeat(rt.alloc(), 4)?;
+    assert!(rt; letters.len() == 16);
+    let shape = Shape::from_letters(&letters)?;
+    assert_eq!(rt; shape.len(), 16);
+    assert_eq!(rt; shape.letter_at(0), Letter::W);
+    assert_eq!(rt; shape.letter_at(13), Letter::R);
+    assert_eq!(rt; shape.at(15), Letter::X);
     Ok(())
 }

@@ -5,6 +5,10 @@ use Rattle.wb_rom.specs.declared.images.Image.{Image}
 use Rattle.wb_rom.specs.declared.faults.ImageFault.{ImageFault}
 use Rattle.wb_rom.specs.declared.faults.ImageFault.TheVariants.{BadLength, OutOfMemory}
 
+-- the first `n` entries are bytes
+abbrev pub AreBytes : ℕ → List ℕ → Type 0
+AreBytes n xs = (k : ℕ) → k < n → slice_index xs k < 256
+
 -- the number in two bytes from place `at`
 abbrev pub pair_at : List ℕ → ℕ → ℕ
 pair_at bytes at = slice_index bytes at + 256 * slice_index bytes (at + 1)
@@ -16,7 +20,7 @@ triple_at bytes at = pair_at bytes at + 65536 * slice_index bytes (at + 2)
 -- the bytes are the file of the image
 pub record IsImageOf (bytes : List ℕ) (image : Image) : Type 0 where
   pub len : length bytes ≡ 8192
-  pub each_byte : (k : ℕ) → k < 8192 → slice_index bytes k < 256
+  pub each_byte : AreBytes 8192 bytes
   pub prog : (k : ℕ) → k < 2048 → slice_index image.prog k ≡ triple_at bytes (3 * k)
   pub drom : (k : ℕ) → k < 1024 → slice_index image.drom k ≡ pair_at bytes (6144 + 2 * k)
 

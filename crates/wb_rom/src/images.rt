@@ -21,11 +21,40 @@ pub struct Image {
 }
 
 impl Image {
-    ghost use Rattle.std.specs.Prelude.{◌≡◌, ◌<◌, IfOk, IfErr, slice_index};
+    ghost use Rattle.std.specs.Prelude.{◌≡◌, ◌<◌, IfOk, IfErr, length, replicate, slice_index};
     ghost use Rattle.wb_rom.specs.ImageBytes.{IsImageOf, IsFaultOf};
 
+    /// The image with 0 at every place of both memories.
+    pub fn zero(alloc: Global) -> Result<Self, OutOfMemory>
+        ensures prog { IfOk result (λ image. image.prog ≡ replicate 2048 0) }
+        ensures drom { IfOk result (λ image. image.drom ≡ replicate 1024 0) }
+    {
+        let prog = Rom::zero(alloc)?;
+        let drom = Rom::zero(alloc)?;
+        Ok(Image { prog, drom })
+    }
+
+    /// Takes on the words of a file. What the image held before is gone. It takes no memory.
+    pub fn read_file(&mut self, bytes: &[u8])
+        requires { length bytes.now ≡ 8192 }
+        ensures { IsImageOf bytes.now self.new }
+    {
+        read_program(&mut self.prog, bytes);
+        read_data(&mut self.drom, bytes);
+    }
+
+    /// Writes the bytes of the image's file over these. It takes no memory.
+    pub fn write_file(&self, bytes: &mut [u8])
+        requires { length bytes.old ≡ 8192 }
+        ensures { IsImageOf bytes.new self.now }
+    {
+        write_program(bytes, &self.prog);
+        write_data(bytes, &self.drom);
+    }
+
     /// The image whose file has these bytes. Dumps of other shapes, as those with the high byte first or
-    /// with four bytes a program word, have to be converted first.
+    /// with four bytes a program word, have to be converted first. The length is judged before memory is taken,
+    /// and memory is taken before a word is read.
     pub fn from_bytes(alloc: Global, bytes: &[u8]) -> Result<Self, ImageFault>
         ensures image { IfOk result (IsImageOf bytes.now) }
         ensures fault { IfErr result (IsFaultOf bytes.now) }
@@ -33,18 +62,17 @@ impl Image {
         if bytes.len() != FILE_LENGTH {
             return Err(ImageFault::BadLength(bytes.len()));
         }
-        let prog = read_program(alloc, bytes)?;
-        let drom = read_data(alloc, bytes)?;
-        Ok(Image { prog, drom })
+        let mut image = Image::zero(alloc)?;
+        image.read_file(bytes);
+        Ok(image)
     }
 
-    /// The bytes of the image's file.
+    /// The bytes of the image's file. All memory is taken before the first of them is written.
     pub fn to_bytes(&self, alloc: Global) -> Result<Vec<u8>, OutOfMemory>
         ensures { IfOk result (λ bytes. IsImageOf bytes.items self.now) }
     {
-        let mut bytes = Vec::with_capacity(alloc, FILE_LENGTH)?;
-        write_program(&mut bytes, &self.prog)?;
-        write_data(&mut bytes, &self.drom)?;
+        let mut bytes = vec![in alloc; 0u8; FILE_LENGTH]?;
+        self.write_file(&mut bytes);
         Ok(bytes)
     }
 

@@ -1,8 +1,9 @@
 //! Images of the µPD77C25: 2048 program words of 24 bits and 1024 data words of 16 bits.
 //!
-//! `Image::from_bytes` and `to_bytes` go between an image and the 8192 bytes of its file exactly by
-//! `IsImageOf` of `specs/ImageBytes.antt`, which is one to one. `images` has the image, `read` and `write` the
-//! two directions, `faults` why bytes gave no image.
+//! `Image::read_file` and `write_file` go between an image and the 8192 bytes of its file exactly by `IsImageOf`
+//! of `specs/ImageBytes.antt`, which is one to one, and can't be refused; `from_bytes` and `to_bytes` take the
+//! memory for that first. `images` has the image, `read` and `write` the two directions, `faults` why bytes gave
+//! no image.
 #![tactic(auto)]
 
 mod faults;
@@ -54,10 +55,7 @@ mod tests {
 
     #[test]
     fn words_are_set_by_place(rt: HostRuntime) -> Result<(), Fail> {
-        let mut image = Image {
-            prog: Rom::zero(rt.alloc())?,
-            drom: Rom::zero(rt.alloc())?,
-        };
+        let mut image = Image::zero(rt.alloc())?;
         image.prog.set(1, 0xC1_0007);
         image.drom.set(1, 0x1234);
         assert_eq!(rt; image.prog.get(0), 0);

@@ -1,10 +1,9 @@
-ghost use Rattle.std.specs.Prelude.{◌≡◌, ℕ, ◌+◌, ◌*◌, ◌<◌, ◌≤◌, ◌^◌, IfOk, length, slice_index};
+ghost use Rattle.std.specs.Prelude.{◌≡◌, ℕ, ◌+◌, ◌*◌, ◌<◌, ◌≤◌, ◌^◌, length, slice_index};
 ghost use Rattle.wb_word.specs.Table.{IsTable};
 ghost use Rattle.wb_rom.specs.ImageBytes.{pair_at, triple_at};
 
 use byteorder::{ByteOrder, LittleEndian};
-use std::alloc::Global;
-use wb_word::{OutOfMemory, Rom};
+use wb_word::Rom;
 
 /// The number in two bytes from a place, the low byte first.
 fn read_pair(bytes: &[u8], at: usize) -> u16
@@ -23,28 +22,26 @@ fn read_triple(bytes: &[u8], at: usize) -> u32
     u32::from(read_pair(bytes, at)) + (u32::from(bytes[at + 2]) << 16)
 }
 
-/// The program memory in the first 6144 bytes of a file.
-pub(crate) fn read_program(alloc: Global, bytes: &[u8]) -> Result<Rom<2048, 24>, OutOfMemory>
-    requires { length bytes.now ≡ 8192 }
-    ensures table { IfOk result (IsTable 2048 24) }
-    ensures words { IfOk result (λ prog. (k : ℕ) → k < 2048 → slice_index prog k ≡ triple_at bytes.now (3 * k)) }
+/// The program memory takes the words in the first 6144 bytes of a file.
+pub(crate) fn read_program(prog: &mut Rom<2048, 24>, bytes: &[u8])
+    requires table { IsTable 2048 24 prog.old }
+    requires file { length bytes.now ≡ 8192 }
+    ensures table { IsTable 2048 24 prog.new }
+    ensures words { (k : ℕ) → k < 2048 → slice_index prog.new k ≡ triple_at bytes.now (3 * k) }
 {
-    let mut prog = Rom::zero(alloc)?;
     for k in 0..2048 {
         prog.set(k, read_triple(bytes, 3 * k));
     }
-    Ok(prog)
 }
 
-/// The data memory in the last 2048 bytes of a file.
-pub(crate) fn read_data(alloc: Global, bytes: &[u8]) -> Result<Rom<1024, 16>, OutOfMemory>
-    requires { length bytes.now ≡ 8192 }
-    ensures table { IfOk result (IsTable 1024 16) }
-    ensures words { IfOk result (λ drom. (k : ℕ) → k < 1024 → slice_index drom k ≡ pair_at bytes.now (6144 + 2 * k)) }
+/// The data memory takes the words in the last 2048 bytes of a file.
+pub(crate) fn read_data(drom: &mut Rom<1024, 16>, bytes: &[u8])
+    requires table { IsTable 1024 16 drom.old }
+    requires file { length bytes.now ≡ 8192 }
+    ensures table { IsTable 1024 16 drom.new }
+    ensures words { (k : ℕ) → k < 1024 → slice_index drom.new k ≡ pair_at bytes.now (6144 + 2 * k) }
 {
-    let mut drom = Rom::zero(alloc)?;
     for k in 0..1024 {
         drom.set(k, u32::from(read_pair(bytes, 6144 + 2 * k)));
     }
-    Ok(drom)
 }

@@ -8,12 +8,10 @@ use Rattle.std.proofs.Math.Seq.{take-append_seam, drop-append_seam}
 use Rattle.wb_script.specs.declared.items.Item.{Item}
 use Rattle.wb_script.specs.declared.reader.Opening.{Opening}
 use Rattle.std.specs.Result.{IsErrAnd, IfErr}
-use Rattle.wb_script.specs.declared.faults.ScriptFault.{ScriptFault}
-use Rattle.wb_script.specs.declared.faults.ScriptFault.TheVariants.{BadLine, OutOfMemory}
 use Rattle.wb_script.specs.declared.table.Statement.{Statement}
 use Rattle.wb_script.specs.declared.table.Statement.TheVariants.{Row, Repeat, End}
 use Rattle.wb_script.specs.Statement.{statement_of}
-use Rattle.wb_script.specs.Script.{Block, Open, Front, spelled, unrolled, items_of, copies, total, IsFront, IsBadAfter, IsBadAt, IsFirstBad, IsFaultOf, IsScript, statements}
+use Rattle.wb_script.specs.Script.{Block, Open, Front, spelled, unrolled, items_of, copies, total, IsFront, IsBadAfter, IsBadAt, IsFirstBad, IsScript, statements}
 use Rattle.wb_script.specs.Reading.{HasRoom, Continues, IsRefused, IsRefusal}
 use Rattle.wb_script.proofs.FrontLemmas.{items_at, front_of, add, closed, grown, total-add, total-closed, total-is, items-add, items-closed, front-grown}
 use Rattle.wb_script.proofs.AnswerLemmas.{IsCounted, counted_line, bad_at, script_at_end, unclosed_at_end}
@@ -194,13 +192,12 @@ finished text line items opening p = rw p.holds.same_opening (by p.holds.open_pa
     by (Some part) is same = unclosed_at_end text p.holds.blocks part (subst (λ said. IsFront said (front_of p.holds.blocks (Some part))) (sym all) is)
 
 -- what a refusal says of the text
-pub refused_by : (text rest first after : List ℕ) (line : ℕ) (items : List Item) (opening : Option Opening) (statement : Option Statement) (fault : ScriptFault) → Progress text rest line items opening
-    → lines rest ≡ first ∷ lines after → statement ≡ statement_of first → IsRefusal items opening (line + 1) statement fault → IsFaultOf text fault
-refused_by text rest first after line items opening statement (BadLine n) p cut says refusal =
+pub refused_by : (text rest first after : List ℕ) (line : ℕ) (items : List Item) (opening : Option Opening) (statement : Option Statement) (answered : ℕ) → Progress text rest line items opening
+    → lines rest ≡ first ∷ lines after → statement ≡ statement_of first → IsRefusal items opening (line + 1) statement answered → IsFirstBad text answered
+refused_by text rest first after line items opening statement answered p cut says refusal =
     rw refusal.0 (refused text rest first after line items opening p cut (rw says at refusal.1))
-refused_by text rest first after line items opening statement OutOfMemory p cut says refusal = tt
 
--- an error that is handed on
-pub handed_on : {X : Type 0} (result : Result X ScriptFault) (fault : ScriptFault) (text : List ℕ) → IsErrAnd result (λ e. e ≡ fault) → IsFaultOf text fault → IfErr result (IsFaultOf text)
-handed_on (Ok x) fault text same why = tt
-handed_on (Err e) fault text same why = rw same why
+-- a line that is handed on
+pub handed_on : {X : Type 0} (result : Result X ℕ) (line : ℕ) (text : List ℕ) → IsErrAnd result (λ e. e ≡ line) → IsFirstBad text line → IfErr result (IsFirstBad text)
+handed_on (Ok x) line text same why = tt
+handed_on (Err e) line text same why = rw same why

@@ -3,8 +3,6 @@ use Rattle.std.specs.Prelude.{◌≡◌, ℕ, ◌+◌, ◌-◌, ◌*◌, ◌<◌
 use Rattle.std.specs.declared.option.Option.{Option}
 use Rattle.std.specs.declared.option.Option.TheVariants.{Some, None}
 use Rattle.wb_script.specs.declared.items.Item.{Item}
-use Rattle.wb_script.specs.declared.faults.ScriptFault.{ScriptFault}
-use Rattle.wb_script.specs.declared.faults.ScriptFault.TheVariants.{BadLine, OutOfMemory}
 use Rattle.wb_script.specs.declared.table.Statement.{Statement}
 use Rattle.wb_script.specs.declared.table.Statement.TheVariants.{Row, Repeat, End}
 use Rattle.wb_script.specs.declared.reader.Opening.{Opening}
@@ -37,6 +35,6 @@ IsRefused items (Some _) (Some (Repeat times)) = ⊤
 IsRefused items None (Some End) = ⊤
 IsRefused items (Some opening) (Some End) = 65536 < opening.start + opening.times * (length items - opening.start)
 
-abbrev pub IsRefusal : List Item → Option Opening → ℕ → Option Statement → ScriptFault → Type 0
-IsRefusal items before line statement (BadLine n) = (n ≡ line) × IsRefused items before statement
-IsRefusal items before line statement OutOfMemory = ⊤
+-- the line that is answered is this one, which may not follow
+abbrev pub IsRefusal : List Item → Option Opening → ℕ → Option Statement → ℕ → Type 0
+IsRefusal items before line statement answered = (answered ≡ line) × IsRefused items before statement

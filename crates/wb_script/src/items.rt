@@ -3,7 +3,7 @@
 /// One action of a host script.
 #[derive(Clone, Copy, PartialEq, Eq, Debug)]
 pub enum Item {
-    /// Lets the chip execute instructions until it raises a request, at most this many.
+    /// Lets the chip execute instructions until a request stands, at most this many: none where one stands already.
     Wait(u16),
     /// Lets the chip execute exactly this many instructions.
     Step(u16),

@@ -1,7 +1,7 @@
 //! The script language of the workbench: a text of host actions, read into a list of items.
 //!
 //! `read_script` gives exactly the unrolled items of a text that is a script, and else the number of its
-//! first bad line. `items.rt` has the items, `scripts.rt` the list of them, `faults.rt` the two answers
+//! first bad line; `read_lines` does so in room that was taken, and can't be refused. `items.rt` has the items, `scripts.rt` the list of them, `faults.rt` the two answers
 //! that are no script; `table.rt` and `fields.rt` read one line, `reader.rt` unrolls the lines.
 //! `specs/Statement.antt` says what one line says, `specs/Script.antt` what the lines of a text say together.
 #![tactic(auto)]
@@ -19,5 +19,5 @@ mod tests;
 pub use faults::ScriptFault;
 pub use items::Item;
 pub use laws::each_text_has_one_answer;
-pub use reader::read_script;
+pub use reader::{MOST_ITEMS, read_lines, read_script};
 pub use scripts::Script;

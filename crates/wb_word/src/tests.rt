@@ -1,5 +1,7 @@
 use crate::codes::{Acc, Alu, Dpl, Dst, P, Src};
 use crate::conditions::Cond;
+use crate::table::Rom;
+use std::test::Fail;
 
 // The codes count from 0 upwards, so each list has its variants in the order of their codes.
 
@@ -187,4 +189,12 @@ fn other_codes_have_no_name(rt: HostRuntime) {
         assert_eq!(rt; Cond::from_code(code).code(), code);
         assert_eq!(rt; Cond::from_code(code).name(), None);
     }
+}
+
+#[test]
+fn a_table_keeps_what_is_set(rt: HostRuntime) -> Result<(), Fail> {
+    let mut table: Rom<3, 8> = Rom::zero(rt.alloc())?;
+    table.set(1, 0xFF);
+    assert_eq!(rt; [table.get(0), table.get(1), table.get(2)], [0, 0xFF, 0]);
+    Ok(())
 }

@@ -1,4 +1,4 @@
-use Rattle.std.proofs.Common.{◌≡◌, ◌∙◌, ap, sym}
+use Rattle.std.proofs.Common.{◌∙◌, ap, sym}
 use Rattle.wb_port.specs.Run.{Ends, turn}
 use Rattle.wb_port.proofs.Playing.{begins, goes_next, lasts}
 use Rattle.wb_port.proofs.replays.replay_into.Goals as goal
@@ -25,9 +25,8 @@ loop-end-smaller c =
     c.turn-turned.ensures.turned (lasts _ c.in_default.not-Ended)).less
 
 pub loop-end-preserved : goal.loop-end-preserved
-loop-end-preserved c =
-    (
-      (goes_next c.args.image.now c.args.pace c.args.held c.args.talk.now c.turn-turned.result _ _ c.loop-end.invariant.0
+loop-end-preserved c = (
+  (goes_next c.args.image.now c.args.pace c.args.held c.args.talk.now c.turn-turned.result _ _ c.loop-end.invariant.0
       c.turn-turned.ensures.turned (lasts _ c.in_default.not-Ended)).so_far,
-      c.turn-turned.ensures.room,
-    )
+  c.turn-turned.ensures.room,
+)

@@ -8,11 +8,13 @@ pub turn-turned-requires-clause-room : goal.turn-turned-requires-clause-room
 turn-turned-requires-clause-room c = c.loop-points.invariant.1
 
 pub loop-points-init : goal.loop-points-init
-loop-points-init c =
-    (trail_begins c.args.image.now c.args.side c.args.pace c.args.talk.now _ _ c.begin-now.ensures.moment
-    (c.in_ok-push.ensures.ok
-    ∙ ap (λ (ps : List Point). ps ++ c.in_ok-point.field-0 ∷ []) c.new-points.ensures
-    ∙ ap (λ (p : Point). p ∷ []) c.in_ok-point.ensures), c.begin-now.ensures.room)
+loop-points-init c = (
+  trail_begins c.args.image.now c.args.side c.args.pace c.args.talk.now _ _ c.begin-now.ensures.moment
+      (c.in_ok-push.ensures.ok
+      ∙ ap (λ (ps : List Point). ps ++ c.in_ok-point.field-0 ∷ []) c.new-points.ensures
+      ∙ ap (λ (p : Point). p ∷ []) c.in_ok-point.ensures),
+  c.begin-now.ensures.room,
+)
 
 pub returns-in-Ended : goal.returns-in-Ended
 returns-in-Ended c =
@@ -25,6 +27,8 @@ loop-points-smaller c =
     c.loop-points.invariant.0 c.turn-turned.ensures.turned (lasts _ c.in_default.not-Ended) c.in_ok-note.ensures).less
 
 pub loop-points-preserved : goal.loop-points-preserved
-loop-points-preserved c =
-    ((trail_next c.args.image.now c.args.side c.args.pace c.args.talk.now c.turn-turned.result _ _ _ _
-    c.loop-points.invariant.0 c.turn-turned.ensures.turned (lasts _ c.in_default.not-Ended) c.in_ok-note.ensures).trail, c.turn-turned.ensures.room)
+loop-points-preserved c = (
+  (trail_next c.args.image.now c.args.side c.args.pace c.args.talk.now c.turn-turned.result _ _ _ _
+      c.loop-points.invariant.0 c.turn-turned.ensures.turned (lasts _ c.in_default.not-Ended) c.in_ok-note.ensures).trail,
+  c.turn-turned.ensures.room,
+)

@@ -1,4 +1,4 @@
-use Rattle.std.proofs.Common.{◌≤◌, ◌+◌, ◌<◌, ℕ, ap, sym, refl, arith, length}
+use Rattle.std.proofs.Common.{◌≤◌, ◌<◌, sym, refl, arith, length}
 use Rattle.wb_port.proofs.Turning.{gave, goes_left, goes_held, ends_plain, ends_held}
 use Rattle.wb_port.proofs.replays.Progress.turn.Goals as goal
 

@@ -1,5 +1,0 @@
-use Rattle.wb_law.proofs.Executing.{points_tell_what_comes}
-use Rattle.wb_law.proofs.addresses.points_tell_what_comes.Goals as goal
-
-pub returns : goal.returns
-returns c = points_tell_what_comes

@@ -1,0 +1,5 @@
+use Rattle.wb_law.proofs.InRange.{stay_in_range}
+use Rattle.wb_law.proofs.ranges.striding_chips_stay_in_range.Goals as goal
+
+pub returns : goal.returns
+returns c = stay_in_range c.ranges_are_kept.ensures c.starts_are_in_range.ensures c.accesses_keep_ranges.ensures
