@@ -1,0 +1,3 @@
+pub mod GateLaw
+pub mod Counts
+pub mod Decided
