@@ -1,6 +1,5 @@
 -- A graph grows by a node.
-use Rattle.std.proofs.Common.{◌≡◌, ℕ, ◌+◌, ◌<◌, ◌≤◌, ◌^◌, Bool, true, List, [], ◌∷◌, ◌++◌, ◌⊎◌, Option, Some, None, length, slice_get, refl, sym, ap, ◌∙◌, subst, arith, inl, inr, eqb, length-append}
-use Rattle.std.specs.List.{sum_by}
+use Rattle.std.proofs.Common.{◌≡◌, ℕ, ◌<◌, ◌^◌, Bool, true, List, [], ◌∷◌, ◌++◌, Option, length, slice_get, refl, sym, ap, ◌∙◌, subst, arith, inl, inr, eqb, length-append}
 use Rattle.std.proofs.lemmas.List.Sums.{sum_by-append}
 use Rattle.wb_term.specs.declared.nodes.Node.{Node}
 use Rattle.wb_term.specs.Nodes.{children, is_input, weight, Each}
@@ -23,6 +22,7 @@ Grown-refl g = record {
   tables = refl;
   longer = omega arith;
   nodes = λ k n h. h;
+  before = λ k n l h. h;
   words = λ x h. h;
   bits = λ c h. h;
   word_values = λ i x h. refl;
@@ -40,6 +40,7 @@ Grown-push g n is = record {
   tables = refl;
   longer = omega (arith, length-append g.nodes (n ∷ []));
   nodes = λ k m h. slice_get-push_old g.nodes n k m h;
+  before = λ k m l h. sym (slice_get-append_left g.nodes (n ∷ []) k l) ∙ h;
   words = λ x h. some-push holds_word g.nodes n x.number (word_below g x h) h;
   bits = λ c h. some-push holds_bit g.nodes n c.number (bit_below g c h) h;
   word_values = λ i x h. value-push i g n x.number (word_below g x h);
@@ -52,16 +53,16 @@ Grown-push g n is = record {
 pub Grown-interned : (g h : Terms) (n : Node) (number : ℕ) → IsInterned g h n number → IsGraph g → Grown g h
 Grown-interned g h n number interned is =
     elim interned.added [
-      inl same ↦ subst (λ (t : Terms). Grown g t) (sym same) (Grown-refl g)
-    | inr new ↦ subst (λ (t : Terms). Grown g t) (sym new.0) (Grown-push g n is)
+      | inl same ↦ subst (λ (t : Terms). Grown g t) (sym same) (Grown-refl g)
+      | inr new ↦ subst (λ (t : Terms). Grown g t) (sym new.0) (Grown-push g n is)
     ]
 
 pub AddsAtMost-interned : (g h : Terms) (n : Node) (number : ℕ) → IsInterned g h n number → AddsAtMost g h 1 (weight n)
 unfolding total_weight
 AddsAtMost-interned g h n number interned =
     elim interned.added [
-      inl same ↦ subst (λ (t : Terms). AddsAtMost g t 1 (weight n)) (sym same) (record { longer_by = omega arith; heavier_by = omega arith })
-    | inr new ↦ subst (λ (t : Terms). AddsAtMost g t 1 (weight n)) (sym new.0) (record {
+      | inl same ↦ subst (λ (t : Terms). AddsAtMost g t 1 (weight n)) (sym same) (record { longer_by = omega arith; heavier_by = omega arith })
+      | inr new ↦ subst (λ (t : Terms). AddsAtMost g t 1 (weight n)) (sym new.0) (record {
         longer_by = omega (arith, length-append g.nodes (n ∷ []));
         heavier_by = omega (arith, sum_by-append weight g.nodes (n ∷ []));
       })
@@ -70,8 +71,8 @@ AddsAtMost-interned g h n number interned =
 pub value-interned : (g h : Terms) (n : Node) (number : ℕ) → IsInterned g h n number → (i : Assignment) (k : ℕ) → k < length g.nodes → value i h k ≡ value i g k
 value-interned g h n number interned i k below =
     elim interned.added [
-      inl same ↦ ap (λ (t : Terms). value i t k) same
-    | inr new ↦ ap (λ (t : Terms). value i t k) new.0 ∙ value-push i g n k below
+      | inl same ↦ ap (λ (t : Terms). value i t k) same
+      | inr new ↦ ap (λ (t : Terms). value i t k) new.0 ∙ value-push i g n k below
     ]
 
 -- the node that was given a number has the value of its kind
@@ -89,11 +90,11 @@ pub HasOnly-interned : (g h : Terms) (n : Node) (number : ℕ) → IsInterned g 
     (p : Node → Bool) → (is_input n ≡ true → p n ≡ true) → Each (HasOnly g p) (children n) → HasOnly h p number
 HasOnly-interned g h n number interned is placed p own each = HasOnly-node h p number n interned.at own
     (Each-map _ _ (λ c both. stays c both.0 both.1) (children n) (Each-both _ _ (children n) (IsPlaced-below g n placed) each)) where
-  stays : (c : ℕ) → c < length g.nodes → HasOnly g p c → HasOnly h p c
-  stays c below only = elim interned.added [
-      inl same ↦ subst (λ (t : Terms). HasOnly t p c) (sym same) only
-    | inr new ↦ subst (λ (t : Terms). HasOnly t p c) (sym new.0) (HasOnly-push g n is p c below only)
-    ]
+      stays : (c : ℕ) → c < length g.nodes → HasOnly g p c → HasOnly h p c
+      stays c below only = elim interned.added [
+        | inl same ↦ subst (λ (t : Terms). HasOnly t p c) (sym same) only
+        | inr new ↦ subst (λ (t : Terms). HasOnly t p c) (sym new.0) (HasOnly-push g n is p c below only)
+      ]
 
 pub Gains-interned : (g h : Terms) (n : Node) (number : ℕ) → IsInterned g h n number → IsGraph g → IsPlaced g n → length g.nodes < 2 ^ 31 → Gains g h n number
 Gains-interned g h n number interned is placed room = record {

@@ -5,3 +5,6 @@ pub mod Same
 pub mod Push
 pub mod Under
 pub mod Growth
+pub mod Fits
+pub mod Settled
+pub mod Agree

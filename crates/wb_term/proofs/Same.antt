@@ -1,9 +1,7 @@
 -- The derived `==` of nodes tells equal nodes apart from others.
-use Rattle.std.proofs.Common.{◌≡◌, ℕ, Bool, true, false, true≢false, refl, sym, ap, ◌∙◌, arith, rules, eqb}
+use Rattle.std.proofs.Common.{◌≡◌, Bool, true, true≢false, sym, arith, rules}
 use Rattle.std.proofs.lemmas.Grind.{common_steps}
-use Rattle.wb_term.specs.declared.nodes.WordNode.{WordNode}
 use Rattle.wb_term.specs.declared.nodes.WordNode.TheVariants.{Const, Byte, Cell, Not, And, Or, Xor, Sum, Diff, Ite, Shl, Shr, High, Low, Look}
-use Rattle.wb_term.specs.declared.nodes.BitNode.{BitNode}
 use Rattle.wb_term.specs.declared.nodes.BitNode.TheVariants.{Known, Pick, NotB, AndB, OrB, XorB, IteB, Same, Carry, Borrow}
 use Rattle.wb_term.specs.declared.nodes.Node.{Node}
 use Rattle.wb_term.specs.declared.nodes.Node.TheVariants.{Word, Bit}

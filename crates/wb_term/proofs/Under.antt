@@ -1,12 +1,12 @@
 -- What stands under a node: its number is no greater, and it stays when a node is added.
-use Rattle.std.proofs.Common.{◌≡◌, ℕ, ◌+◌, ◌<◌, ◌≤◌, Bool, true, List, [], ◌∷◌, ◌++◌, Some, length, slice_get, refl, sym, ap, ◌∙◌, subst, arith, inl, inr}
+use Rattle.std.proofs.Common.{◌≡◌, ℕ, ◌<◌, ◌≤◌, Bool, true, List, [], ◌∷◌, ◌++◌, Some, length, slice_get, sym, subst, arith, inl, inr}
 use Rattle.wb_term.specs.declared.nodes.Node.{Node}
 use Rattle.wb_term.specs.Nodes.{children, is_input, Each, IsAmong}
 use Rattle.wb_term.specs.Terms.{Terms, IsGraph}
 use Rattle.wb_term.specs.Under.{IsUnder, Itself, Below, HasOnly}
 use Rattle.wb_term.specs.Growth.{with_node}
 use Rattle.wb_term.proofs.Placed.{Each-at, Each-from, children_below}
-use Rattle.wb_term.proofs.Push.{slice_get-push_old, slice_get-push_cases}
+use Rattle.wb_term.proofs.Push.{slice_get-push_cases}
 
 -- a child of a node has a smaller number
 pub child_below : (g : Terms) → IsGraph g → (k c : ℕ) (n : Node) → slice_get g.nodes k ≡ Some n → IsAmong c (children n) → c < k
@@ -33,9 +33,9 @@ under-push g m is _ _ (Below j k c n at among u) h =
 pub HasOnly-push : (g : Terms) (m : Node) → IsGraph g → (p : Node → Bool) (k : ℕ) → k < length g.nodes → HasOnly g p k → HasOnly (with_node g m) p k
 HasOnly-push g m is p k h only = record {
   passes = λ j n u at input.
-    let old = under-push g m is j k u h in
-    let most = under_at_most g is j k old in
-    only.passes j n old (old_node g.nodes m j n (omega (arith, most)) at) input;
+      let old = under-push g m is j k u h in
+      let most = under_at_most g is j k old in
+      only.passes j n old (old_node g.nodes m j n (omega (arith, most)) at) input;
 }
 
 -- what stands under a node is the node and what stands under its children

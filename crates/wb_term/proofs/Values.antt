@@ -1,12 +1,10 @@
 -- The value of a node is that of its kind, of the values of its children; it stays when nodes are added.
-use Rattle.std.proofs.Common.{◌≡◌, ℕ, ◌+◌, ◌<◌, ◌≤◌, zero, suc, Bool, true, false, List, [], ◌∷◌, ◌++◌, Option, Some, None, length, slice_get, get_or, take, drop, refl, sym, ap, ◌∙◌, subst, arith, rules, eqb, append_assoc, length-append}
+use Rattle.std.proofs.Common.{◌≡◌, ℕ, ◌+◌, ◌<◌, zero, suc, List, [], ◌∷◌, ◌++◌, Some, length, slice_get, get_or, take, drop, refl, sym, ap, ◌∙◌, subst, arith, append_assoc, length-append}
 use Rattle.std.specs.Prelude.{fold}
 use Rattle.std.proofs.lemmas.List.{get_or_append_left, get_or_push, length-take}
 use Rattle.std.proofs.lemmas.List.Sums.{fold-append}
 use Rattle.std.proofs.lemmas.Option.{slice_get_within}
-use Rattle.wb_term.specs.declared.nodes.WordNode.{WordNode}
 use Rattle.wb_term.specs.declared.nodes.WordNode.TheVariants.{Const, Byte, Cell, Not, And, Or, Xor, Sum, Diff, Ite, Shl, Shr, High, Low, Look}
-use Rattle.wb_term.specs.declared.nodes.BitNode.{BitNode}
 use Rattle.wb_term.specs.declared.nodes.BitNode.TheVariants.{Known, Pick, NotB, AndB, OrB, XorB, IteB, Same, Carry, Borrow}
 use Rattle.wb_term.specs.declared.nodes.Node.{Node}
 use Rattle.wb_term.specs.declared.nodes.Node.TheVariants.{Word, Bit}
@@ -73,7 +71,7 @@ unfolding values
 values-append t i ns ms k h =
     let l : k < length (values t i ns) = omega (arith, length-values t i ns) in
     let e : get_or (fold (with_value t i) [] (ns ++ ms)) k 0 ≡ get_or (fold (with_value t i) (fold (with_value t i) [] ns) ms) k 0 =
-        ap (λ (vs : List ℕ). get_or vs k 0) (fold-append (with_value t i) [] ns ms) in
+    ap (λ (vs : List ℕ). get_or vs k 0) (fold-append (with_value t i) [] ns ms) in
     e ∙ kept_from t i k (values t i ns) ms l
 
 -- the value of the node that comes after a list's
@@ -84,8 +82,8 @@ values-next t i ns ms n =
     let h : length ns < length (ns ++ n ∷ []) = omega (arith, length-append ns (n ∷ [])) in
     let kept = values-append t i (ns ++ n ∷ []) ms (length ns) h in
     let pushed : get_or (values t i (ns ++ n ∷ [])) (length ns) 0 ≡ node_value t i (λ k. get_or (values t i ns) k 0) n =
-        ap (λ (vs : List ℕ). get_or vs (length ns) 0) (values-push t i ns n)
-        ∙ get_or_push (values t i ns) (node_value t i (λ k. get_or (values t i ns) k 0) n) 0 (length ns) (length-values t i ns) in
+    ap (λ (vs : List ℕ). get_or vs (length ns) 0) (values-push t i ns n)
+    ∙ get_or_push (values t i ns) (node_value t i (λ k. get_or (values t i ns) k 0) n) 0 (length ns) (length-values t i ns) in
     rw e (kept ∙ pushed)
 
 split_at : (ns : List Node) (k : ℕ) (n : Node) → slice_get ns k ≡ Some n → ns ≡ take k ns ++ n ∷ drop (suc k) ns
@@ -105,10 +103,10 @@ value-at i g k n h below =
     let within = slice_get_within g.nodes k n h in
     let len : length front ≡ k = omega (arith, length-take k g.nodes) in
     let here : get_or (values t i g.nodes) k 0 ≡ node_value t i (λ c. get_or (values t i front) c 0) n =
-        subst (λ (ns : List Node). get_or (values t i ns) k 0 ≡ node_value t i (λ c. get_or (values t i front) c 0) n) (sym e)
-        (subst (λ (m : ℕ). get_or (values t i (front ++ n ∷ rest)) m 0 ≡ node_value t i (λ c. get_or (values t i front) c 0) n) len
-         (values-next t i front rest n)) in
+    subst (λ (ns : List Node). get_or (values t i ns) k 0 ≡ node_value t i (λ c. get_or (values t i front) c 0) n) (sym e)
+    (subst (λ (m : ℕ). get_or (values t i (front ++ n ∷ rest)) m 0 ≡ node_value t i (λ c. get_or (values t i front) c 0) n) len
+    (values-next t i front rest n)) in
     let stays : (c : ℕ) → c < k → get_or (values t i front) c 0 ≡ get_or (values t i g.nodes) c 0 =
-        λ c l. subst (λ (ns : List Node). get_or (values t i front) c 0 ≡ get_or (values t i ns) c 0) (sym e)
-            (sym (values-append t i front (n ∷ rest) c (omega (arith, len, l)))) in
+    λ c l. subst (λ (ns : List Node). get_or (values t i front) c 0 ≡ get_or (values t i ns) c 0) (sym e)
+    (sym (values-append t i front (n ∷ rest) c (omega (arith, len, l)))) in
     here ∙ node_value-same t i _ _ n (Each-map _ _ stays (children n) below)

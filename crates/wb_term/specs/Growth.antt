@@ -1,5 +1,5 @@
 -- What stays when a graph grows: everything that could be said of the nodes that were there.
-use Rattle.std.specs.Prelude.{◌≡◌, ℕ, ◌+◌, ◌<◌, ◌≤◌, ◌⊎◌, ◌≢◌, Bool, true, List, [], ◌∷◌, ◌++◌, Some, length, slice_get}
+use Rattle.std.specs.Prelude.{◌≡◌, ℕ, ◌+◌, ◌<◌, ◌≤◌, ◌⊎◌, ◌≢◌, Bool, true, [], ◌∷◌, ◌++◌, Some, length, slice_get}
 use Rattle.std.specs.List.{sum_by}
 use Rattle.wb_term.specs.declared.nodes.WordId.{WordId}
 use Rattle.wb_term.specs.declared.nodes.BitId.{BitId}
@@ -19,6 +19,7 @@ pub record Grown (old new : Terms) : Type 0 where
   pub tables : new.tables ≡ old.tables
   pub longer : length old.nodes ≤ length new.nodes
   pub nodes : (k : ℕ) (n : Node) → slice_get old.nodes k ≡ Some n → slice_get new.nodes k ≡ Some n
+  pub before : (k : ℕ) (n : Node) → k < length old.nodes → slice_get new.nodes k ≡ Some n → slice_get old.nodes k ≡ Some n
   pub words : (x : WordId) → HasWord old x → HasWord new x
   pub bits : (c : BitId) → HasBit old c → HasBit new c
   pub word_values : (inputs : Assignment) (x : WordId) → HasWord old x → word_value inputs new x ≡ word_value inputs old x

@@ -5,3 +5,4 @@ pub mod Numbers
 pub mod Values
 pub mod Under
 pub mod Growth
+pub mod Laws

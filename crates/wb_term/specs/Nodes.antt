@@ -1,7 +1,5 @@
 -- The children, the weight and the kind of a node.
 use Rattle.std.specs.Prelude.{◌≡◌, ℕ, Bool, true, false, List, [], ◌∷◌, ◌⊎◌}
-use Rattle.wb_term.specs.declared.nodes.WordId.{WordId}
-use Rattle.wb_term.specs.declared.nodes.BitId.{BitId}
 use Rattle.wb_term.specs.declared.nodes.WordNode.{WordNode}
 use Rattle.wb_term.specs.declared.nodes.WordNode.TheVariants.{Const, Byte, Cell, Not, And, Or, Xor, Sum, Diff, Ite, Shl, Shr, High, Low, Look}
 use Rattle.wb_term.specs.declared.nodes.BitNode.{BitNode}

@@ -1,5 +1,5 @@
 -- Words of 16 bits as exact whole numbers.
-use Rattle.std.specs.Prelude.{ℕ, ◌+◌, ◌-◌, ◌%◌, ◌^◌, ℤ, pos, ◌-ℤ◌, ◌*ℤ◌, Bool, if◌then◌else◌, nat_lt, int_rem, unsigned_abs}
+use Rattle.std.specs.Prelude.{ℕ, ◌+◌, ◌-◌, ◌%◌, ◌^◌, ℤ, pos, ◌-ℤ◌, ◌*ℤ◌, Bool, if◌then◌else◌, nat_lt, unsigned_abs}
 use Rattle.std.specs.Int.{int_rem_euclid}
 
 -- a bit as 0 or 1

@@ -1,6 +1,7 @@
 -- What a graph holds, and what is true of every graph.
 use Rattle.std.specs.Prelude.{◌≡◌, ℕ, ◌^◌, ◌<◌, ◌≤◌, Bool, true, false, List, [], Some, None, Option, length, slice_get, take, is_some, cond}
 use Rattle.std.specs.declared.vec.Vec.{Vec}
+use Rattle.wb_word.specs.Table.{IsTable}
 use Rattle.wb_word.specs.declared.sides.Side.{Side}
 use Rattle.wb_word.specs.declared.sides.Side.TheVariants.{A, B}
 use Rattle.wb_term.specs.declared.nodes.WordId.{WordId}
@@ -102,16 +103,11 @@ IsPlaced g (Bit n) = IsBitPlaced g n
 abbrev pub first_of : ℕ → Terms → Terms
 first_of k g = record { nodes = take k g.nodes; tables = g.tables }
 
--- a data table: 1024 words
-pub record IsData (words : List ℕ) : Type 0 where
-  pub len : length words ≡ 1024
-  pub fits : (k : ℕ) (w : ℕ) → slice_get words k ≡ Some w → w < 65536
-
--- Each node's children have smaller numbers and the right sort, no node stands twice, and at most 2 ^ 31 nodes
--- are there.
+-- Each node's children have smaller numbers and the right sort, no node stands twice, at most 2 ^ 31 nodes are
+-- there, and a data table has 1024 words.
 pub record IsGraph (g : Terms) : Type 0 where
   pub placed : (k : ℕ) (n : Node) → slice_get g.nodes k ≡ Some n → IsPlaced (first_of k g) n
   pub once : (j k : ℕ) (n : Node) → slice_get g.nodes j ≡ Some n → slice_get g.nodes k ≡ Some n → j ≡ k
   pub fits : length g.nodes ≤ 2 ^ 31
-  pub first : IsData g.tables.first
-  pub second : (words : List ℕ) → g.tables.second ≡ Some words → IsData words
+  pub first : IsTable 1024 16 g.tables.first
+  pub second : (words : List ℕ) → g.tables.second ≡ Some words → IsTable 1024 16 words

@@ -1,5 +1,5 @@
 -- The nodes under a number: its own node, the children, their children and so on.
-use Rattle.std.specs.Prelude.{◌≡◌, ℕ, Bool, true, List, Some, slice_get, slice_index}
+use Rattle.std.specs.Prelude.{◌≡◌, ℕ, Bool, true, Some, slice_get, slice_index}
 use Rattle.wb_term.specs.declared.nodes.WordNode.TheVariants.{Byte, Cell}
 use Rattle.wb_term.specs.declared.nodes.Node.{Node}
 use Rattle.wb_term.specs.declared.nodes.Node.TheVariants.{Word}

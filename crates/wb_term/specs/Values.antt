@@ -1,6 +1,6 @@
 -- The value of each node under inputs: that of its kind, of the values of its children, whose numbers are smaller.
-use Rattle.std.specs.Prelude.{◌≡◌, ℕ, ◌+◌, ◌-◌, ◌*◌, ◌/◌, ◌%◌, ◌^◌, ◌<◌, Bool, true, false, not, ◌&&◌, ◌||◌, ◌==◌, if◌then◌else◌, nat_lt, bit_and, bit_or, bit_xor, List, [], ◌∷◌, ◌++◌, fold, slice_index}
-use Rattle.std.specs.Bool.{xor}
+use Rattle.std.specs.Prelude.{◌≡◌, ℕ, ◌+◌, ◌-◌, ◌*◌, ◌/◌, ◌%◌, ◌^◌, ◌<◌, Bool, not, ◌&&◌, ◌||◌, ◌==◌, if◌then◌else◌, nat_lt, bit_and, bit_or, bit_xor, List, [], ◌∷◌, ◌++◌, fold, length, slice_index}
+use Rattle.std.specs.Bool.{beq}
 use Rattle.wb_term.specs.declared.nodes.WordId.{WordId}
 use Rattle.wb_term.specs.declared.nodes.BitId.{BitId}
 use Rattle.wb_term.specs.declared.nodes.WordNode.{WordNode}
@@ -9,6 +9,7 @@ use Rattle.wb_term.specs.declared.nodes.BitNode.{BitNode}
 use Rattle.wb_term.specs.declared.nodes.BitNode.TheVariants.{Known, Pick, NotB, AndB, OrB, XorB, IteB, Same, Carry, Borrow}
 use Rattle.wb_term.specs.declared.nodes.Node.{Node}
 use Rattle.wb_term.specs.declared.nodes.Node.TheVariants.{Word, Bit}
+use Rattle.wb_term.specs.Nodes.{Each}
 use Rattle.wb_term.specs.Inputs.{Assignment, IsAssignment}
 use Rattle.wb_term.specs.Numbers.{bit, cut, less, product}
 use Rattle.wb_term.specs.Terms.{Tables, Terms, table_words, HasWord, HasBit}
@@ -38,7 +39,7 @@ bit_node_value word is_set (Pick x m) = word x / 2 ^ m % 2 == 1
 bit_node_value word is_set (NotB c) = not (is_set c)
 bit_node_value word is_set (AndB c d) = is_set c && is_set d
 bit_node_value word is_set (OrB c d) = is_set c || is_set d
-bit_node_value word is_set (XorB c d) = xor (is_set c) (is_set d)
+bit_node_value word is_set (XorB c d) = not (beq (is_set c) (is_set d))
 bit_node_value word is_set (IteB c d e) = if is_set c then is_set d else is_set e
 bit_node_value word is_set (Same x y) = word x == word y
 bit_node_value word is_set (Carry x y c) = nat_lt 65535 (word x + word y + bit (is_set c))
@@ -65,6 +66,10 @@ word_value inputs g x = value inputs g x.number
 
 abbrev pub bit_value : Assignment → Terms → BitId → Bool
 bit_value inputs g c = value inputs g c.number == 1
+
+-- The slots of these nodes are there and hold words. A bit is the word 0 or 1.
+abbrev pub AreWords : List ℕ → List ℕ → Type 0
+AreWords slots ks = Each (λ k. (k < length slots) × (slice_index slots k < 65536)) ks
 
 -- a word node of the graph that has a value under all inputs
 pub record IsWord (g : Terms) (id : WordId) (meaning : Assignment → ℕ) : Type 0 where

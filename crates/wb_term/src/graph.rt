@@ -1,7 +1,8 @@
-ghost use Rattle.std.specs.Prelude.{◌≡◌, ◌≤◌, ◌<◌, ◌^◌, ℕ, Bool, true, IfOk, OnErr, length, slice_get, slice_index};
+ghost use Rattle.std.specs.Prelude.{◌≡◌, ◌≢◌, [], ◌≤◌, ◌<◌, ◌^◌, ℕ, Bool, true, IfOk, OnErr, length, slice_get, slice_index};
+ghost use Rattle.wb_word.specs.Table.{IsTable};
 ghost use Rattle.wb_term.specs.Nodes.{is_input, Each, children, word_children, bit_children, word_weight, bit_weight};
-ghost use Rattle.wb_term.specs.Terms.{Terms, IsKept, HasWord, HasBit, IsPlaced, IsWordPlaced, IsBitPlaced, first_of, table_of, table_words};
-ghost use Rattle.wb_term.specs.Inputs.{Assignment};
+ghost use Rattle.wb_term.specs.Terms.{Terms, IsGraph, IsKept, HasWord, HasBit, IsPlaced, IsWordPlaced, IsBitPlaced, table_of, table_words};
+ghost use Rattle.wb_term.specs.Inputs.{Assignment, IsAssignment};
 ghost use Rattle.wb_term.specs.Values.{value, node_value, word_value, bit_value, word_node_value, bit_node_value, IsWord, IsBit};
 ghost use Rattle.wb_term.specs.Under.{HasOnly};
 ghost use Rattle.wb_term.specs.Growth.{Grown, AddsAtMost, IsInterned, Gains};
@@ -28,20 +29,41 @@ impl Model for Graph {
     ghost Value = { Terms };
 
     ghost view = { λ g. record {
-        nodes = g.nodes.keys;
-        tables = record { first = g.first.items; second = option_items g.second };
+      nodes = g.nodes.keys;
+      tables = record { first = g.first.items; second = option_items g.second };
     } };
 
     ghost invariant = { λ g. IsGraph (record {
-        nodes = g.nodes.keys;
-        tables = record { first = g.first.items; second = option_items g.second };
+      nodes = g.nodes.keys;
+      tables = record { first = g.first.items; second = option_items g.second };
     }) };
 }
 
 impl Graph {
+    /// A graph of no nodes over the data tables of two machines. Equal tables are kept once.
+    pub fn new(alloc: Global, a: &Rom<1024, 16>, b: &Rom<1024, 16>) -> Result<Self, OutOfMemory>
+        ensures empty { IfOk result (λ graph. graph.nodes ≡ []) }
+        ensures one { a.now ≡ b.now → IfOk result (λ graph. graph.tables ≡ record { first = a.now; second = None }) }
+        ensures two { a.now ≢ b.now → IfOk result (λ graph. graph.tables ≡ record { first = a.now; second = Some b.now }) }
+    {
+        let first = data_words(alloc, a)?;
+        let second = data_words(alloc, b)?;
+        let second = if first.as_slice() == second.as_slice() {
+            None
+        } else {
+            Some(second)
+        };
+        Ok(Graph {
+            nodes: IndexSet::new(alloc),
+            first,
+            second,
+        })
+    }
+
     /// How many nodes there are.
     pub fn len(&self) -> u32
-        ensures { result ≡ length self.now.nodes }
+        ensures count { result ≡ length self.now.nodes }
+        ensures graph { IsGraph self.now }
     {
         self.nodes.len() as u32
     }
@@ -74,7 +96,8 @@ impl Graph {
     pub fn node_at(&self, number: u32) -> Node
         requires { number < length self.now.nodes }
         ensures node { slice_get self.now.nodes number ≡ Some result }
-        ensures below { IsPlaced (first_of number self.now) result }
+        ensures below { Each (λ k. k < number) (children result) }
+        ensures fits { (inputs : Assignment) → IsAssignment inputs → value inputs self.now number < 65536 }
         ensures placed { IsPlaced self.now result }
         ensures inputs { (allowed : Node → Bool) → HasOnly self.now allowed number → Each (HasOnly self.now allowed) (children result) }
         ensures value { (inputs : Assignment) → value inputs self.now number ≡ node_value self.now.tables inputs (value inputs self.now) result }
@@ -85,7 +108,10 @@ impl Graph {
     /// The node of a word's number.
     pub fn word_at(&self, id: WordId) -> WordNode
         requires there { HasWord self.now id }
+        ensures fits { (inputs : Assignment) → IsAssignment inputs → word_value inputs self.now id < 65536 }
         ensures node { slice_get self.now.nodes id.number ≡ Some (Node.Word result) }
+        ensures within { id.number < length self.now.nodes }
+        ensures below { Each (λ k. k < id.number) (word_children result) }
         ensures placed { IsWordPlaced self.now result }
         ensures value { (inputs : Assignment) →
             word_value inputs self.now id ≡ word_node_value self.now.tables inputs (word_value inputs self.now) (bit_value inputs self.now) result }
@@ -101,6 +127,8 @@ impl Graph {
     pub fn bit_at(&self, id: BitId) -> BitNode
         requires there { HasBit self.now id }
         ensures node { slice_get self.now.nodes id.number ≡ Some (Node.Bit result) }
+        ensures within { id.number < length self.now.nodes }
+        ensures below { Each (λ k. k < id.number) (bit_children result) }
         ensures placed { IsBitPlaced self.now result }
         ensures value { (inputs : Assignment) →
             bit_value inputs self.now id ≡ bit_node_value (word_value inputs self.now) (bit_value inputs self.now) result }
@@ -166,4 +194,16 @@ impl Graph {
         };
         Ok(index as u32)
     }
+}
+
+/// The words of a data ROM, in order.
+fn data_words(alloc: Global, rom: &Rom<1024, 16>) -> Result<Vec<u16>, OutOfMemory>
+    ensures words { IfOk result (λ words. words.items ≡ rom.now) }
+    ensures table { IfOk result (λ words. IsTable 1024 16 words.items) }
+{
+    let mut words = Vec::with_capacity(alloc, 1024)?;
+    for at in 0..1024 {
+        words.push(rom.get(at) as u16)?;
+    }
+    Ok(words)
 }

@@ -7,13 +7,20 @@
 //! on, `scratch` one slot for each node, `evaluation` the values, `laws` what holds of every graph.
 #![tactic(auto)]
 
+mod arithmetic;
+mod evaluation;
 mod graph;
 mod inputs;
+mod laws;
 mod nodes;
 mod scratch;
 
 pub use graph::Graph;
 pub use inputs::Inputs;
+pub use laws::values_agree;
 pub use nodes::{BitId, BitNode, Node, Table, WordId, WordNode};
 pub use scratch::Scratch;
 pub use wb_word::OutOfMemory;
+
+#[cfg(test)]
+mod tests;
