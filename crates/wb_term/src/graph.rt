@@ -97,7 +97,7 @@ impl Graph {
         requires { number < length self.now.nodes }
         ensures node { slice_get self.now.nodes number ≡ Some result }
         ensures below { Each (λ k. k < number) (children result) }
-        ensures fits { (inputs : Assignment) → IsAssignment inputs → value inputs self.now number < 65536 }
+        ensures fits { (inputs : Assignment) → IsAssignment inputs → (k : ℕ) → value inputs self.now k < 65536 }
         ensures placed { IsPlaced self.now result }
         ensures inputs { (allowed : Node → Bool) → HasOnly self.now allowed number → Each (HasOnly self.now allowed) (children result) }
         ensures value { (inputs : Assignment) → value inputs self.now number ≡ node_value self.now.tables inputs (value inputs self.now) result }
@@ -108,7 +108,7 @@ impl Graph {
     /// The node of a word's number.
     pub fn word_at(&self, id: WordId) -> WordNode
         requires there { HasWord self.now id }
-        ensures fits { (inputs : Assignment) → IsAssignment inputs → word_value inputs self.now id < 65536 }
+        ensures fits { (inputs : Assignment) → IsAssignment inputs → (x : WordId) → word_value inputs self.now x < 65536 }
         ensures node { slice_get self.now.nodes id.number ≡ Some (Node.Word result) }
         ensures within { id.number < length self.now.nodes }
         ensures below { Each (λ k. k < id.number) (word_children result) }

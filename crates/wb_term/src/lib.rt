@@ -4,7 +4,7 @@
 //! number of the one equal node, and old numbers keep their nodes and values. `Graph::value_word` and
 //! `Graph::value_bit` give the value of a node under inputs, by recursion on smaller numbers, exactly as
 //! `specs/Values.antt` has it. `nodes` has the kinds of nodes, `graph` the graph, `inputs` what the values depend
-//! on, `scratch` one slot for each node, `evaluation` the values, `laws` what holds of every graph.
+//! on, `scratch` one slot for each node, `arithmetic` and `evaluation` the values, `laws` what holds of every graph.
 #![tactic(auto)]
 
 mod arithmetic;
@@ -15,6 +15,7 @@ mod laws;
 mod nodes;
 mod scratch;
 
+pub use arithmetic::{borrows, carries, difference, sum, twice_product};
 pub use graph::Graph;
 pub use inputs::Inputs;
 pub use laws::values_agree;

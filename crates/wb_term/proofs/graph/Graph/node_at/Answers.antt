@@ -17,9 +17,9 @@ pub returns-clause-below : goal.returns-clause-below
 returns-clause-below c = children_below c.args.self.now c.args.number c.index.result.now (placed c)
 
 pub returns-clause-fits : goal.returns-clause-fits
-returns-clause-fits c inputs is =
-    let fits : Terms → Type 0 = λ g. value inputs g c.args.number < 65536 in
-    subst fits c.self.view_is (value-lt (graph_of c.self.inside c.self.inside.nodes.keys) c.self.invariant inputs is c.args.number)
+returns-clause-fits c inputs is k =
+    let fits : Terms → Type 0 = λ g. value inputs g k < 65536 in
+    subst fits c.self.view_is (value-lt (graph_of c.self.inside c.self.inside.nodes.keys) c.self.invariant inputs is k)
 
 pub returns-clause-placed : goal.returns-clause-placed
 returns-clause-placed c =
