@@ -4,7 +4,6 @@ use Rattle.wb_term.specs.Terms.{Terms}
 use Rattle.wb_term.specs.Growth.{Grown, AddsAtMost, total_weight}
 
 infixl 10 ◌▸◌
-
 pub ◌▸◌ : {f g h : Terms} → Grown f g → Grown g h → Grown f h
 a ▸ b = record {
   tables = b.tables ∙ a.tables;

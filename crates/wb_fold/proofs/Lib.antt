@@ -1,2 +1,5 @@
 pub mod WordLaws
 pub mod Growth
+pub mod SignLaws
+pub mod ShiftLaws
+pub mod AluFlags

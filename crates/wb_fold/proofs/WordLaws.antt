@@ -41,6 +41,9 @@ pub product_zero_r : (x : ℕ) → product x 0 ≡ 0
 product_zero_r x = product_comm x 0 ∙ product_zero_l x
 
 pub ruleset product_laws = (product_zero_l, product_zero_r, product_comm)
+
 pub ruleset and_laws = (and_self, and_zero_l, and_zero_r, and_ones_l, and_ones_r, and_comm)
+
 pub ruleset or_laws = (or_self, or_zero_l, or_zero_r, or_ones_l, or_ones_r, or_comm)
+
 pub ruleset xor_laws = (xor_self, xor_zero_l, xor_zero_r, xor_ones_l, xor_ones_r, xor_comm)

@@ -45,9 +45,8 @@ pub fn mk_carry(graph: &mut Graph, x: WordId, y: WordId, c: BitId) -> Result<Bit
         (WordNode::Const(a), WordNode::Const(b), BitNode::Known(carry)) => {
             mk_known(graph, carries(a, b, carry))
         }
-        (WordNode::Const(0), _, BitNode::Known(false)) | (_, WordNode::Const(0), BitNode::Known(false)) => {
-            mk_known(graph, false)
-        }
+        (WordNode::Const(0), _, BitNode::Known(false))
+        | (_, WordNode::Const(0), BitNode::Known(false)) => { mk_known(graph, false) }
         _ if y.number() < x.number() => graph.bit(BitNode::Carry(y, x, c)),
         _ => graph.bit(BitNode::Carry(x, y, c)),
     }

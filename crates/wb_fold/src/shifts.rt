@@ -57,7 +57,10 @@ pub fn mk_high(graph: &mut Graph, x: WordId, y: WordId) -> Result<WordId, OutOfM
     ensures adds { AddsAtMost graph.old graph.new 1 4096 }
 {
     match (graph.word_at(x), graph.word_at(y)) {
-        (WordNode::Const(a), WordNode::Const(b)) => mk_const(graph, (twice_product(a, b) >> 16) as u16),
+        (WordNode::Const(a), WordNode::Const(b)) => mk_const(
+            graph,
+            (twice_product(a, b) >> 16) as u16,
+        ),
         (WordNode::Const(0), _) => Ok(x),
         (_, WordNode::Const(0)) => Ok(y),
         _ if y.number() < x.number() => graph.word(WordNode::High(y, x)),
@@ -78,7 +81,10 @@ pub fn mk_low(graph: &mut Graph, x: WordId, y: WordId) -> Result<WordId, OutOfMe
     ensures adds { AddsAtMost graph.old graph.new 1 4096 }
 {
     match (graph.word_at(x), graph.word_at(y)) {
-        (WordNode::Const(a), WordNode::Const(b)) => mk_const(graph, (twice_product(a, b) & 0xFFFF) as u16),
+        (WordNode::Const(a), WordNode::Const(b)) => mk_const(
+            graph,
+            (twice_product(a, b) & 0xFFFF) as u16,
+        ),
         (WordNode::Const(0), _) => Ok(x),
         (_, WordNode::Const(0)) => Ok(y),
         _ if y.number() < x.number() => graph.word(WordNode::Low(y, x)),

@@ -1,0 +1,38 @@
+-- A RAM of 256 words of a graph.
+use Rattle.std.specs.Prelude.{◌≡◌, ℕ, ◌%◌, ◌<◌, ◌==◌, Bool, List, if◌then◌else◌, length, slice_index_or}
+use Rattle.wb_term.specs.declared.nodes.WordId.{WordId}
+use Rattle.wb_term.specs.declared.nodes.BitId.{BitId}
+use Rattle.wb_term.specs.declared.nodes.Node.{Node}
+use Rattle.wb_term.specs.Inputs.{Assignment, IsAssignment}
+use Rattle.wb_term.specs.Terms.{Terms, HasWord, HasBit}
+use Rattle.wb_term.specs.Values.{IsWord, IsBit, word_value}
+use Rattle.wb_term.specs.Under.{HasOnly}
+
+-- the word of a place
+abbrev pub word_in : List WordId → ℕ → WordId
+word_in ids k = slice_index_or ids k (record { number = 0 })
+
+-- the bit of a place
+abbrev pub bit_in : List BitId → ℕ → BitId
+bit_in ids k = slice_index_or ids k (record { number = 0 })
+
+-- every entry is a word of the graph
+pub record HasWords (g : Terms) (ids : List WordId) : Type 0 where
+  pub there : (k : ℕ) → k < length ids → HasWord g (word_in ids k)
+
+-- every entry is a word of the graph that has a value under all inputs
+pub record AreWords (g : Terms) (ids : List WordId) (meaning : Assignment → ℕ → ℕ) : Type 0 where
+  pub word : (k : ℕ) → k < length ids → IsWord g (word_in ids k) (λ inputs. meaning inputs k)
+
+-- only such input nodes stand under the entries
+pub record WordsHaveOnly (g : Terms) (allowed : Node → Bool) (ids : List WordId) : Type 0 where
+  pub only : (k : ℕ) → k < length ids → HasOnly g allowed (word_in ids k).number
+
+-- the value of the entry at the low 8 bits of a word
+abbrev pub selected : Assignment → Terms → List WordId → WordId → ℕ
+selected inputs g ram dp = word_value inputs g (word_in ram (word_value inputs g dp % 256))
+
+-- the value of an entry after a store at the low 8 bits of a word
+abbrev pub stored : Assignment → Terms → List WordId → WordId → WordId → ℕ → ℕ
+stored inputs g ram dp value k =
+    if k == word_value inputs g dp % 256 then word_value inputs g value else word_value inputs g (word_in ram k)
