@@ -31,8 +31,8 @@ doubled_is v c = low_free v 1 (bit c) (lit< tt) (bit-lt c) where
   bit-lt true = lit< tt
   bit-lt false = lit< tt
 
-pub filled_is : (v k : ℕ) → k < 16 → bit_or (cut (v * 2 ^ k)) (2 ^ k - 1) ≡ cut (v * 2 ^ k + (2 ^ k - 1))
-filled_is v k h = low_free v k (2 ^ k - 1) h (omega (arith, pow_pos k))
+pub filled_is : (v k n : ℕ) → k < 16 → n + 1 ≡ 2 ^ k → bit_or (cut (v * 2 ^ k)) n ≡ cut (v * 2 ^ k + n)
+filled_is v k n h e = low_free v k n h (omega (arith, e))
 
 pub exchanged_is : (v : ℕ) → v < 65536 → bit_or (cut (v * 256)) (v / 256) ≡ v % 256 * 256 + v / 256
 exchanged_is v h =

@@ -239,7 +239,6 @@ fn sum_of(graph: &mut Graph, q: WordId, p: WordId, c: BitId) -> Result<Worked, O
     })
 }
 
-#[tactic(auto, using(crate::proofs::SignLaws::difference_overflows))]
 fn difference_of(graph: &mut Graph, q: WordId, p: WordId, c: BitId) -> Result<Worked, OutOfMemory>
     requires q { HasWord graph.old q }
     requires p { HasWord graph.old p }

@@ -6,12 +6,14 @@
 //! and `comparisons` the other bits.
 #![tactic(auto)]
 
+mod address;
 mod alu;
 mod bits;
 mod comparisons;
 mod flags;
 mod leaves;
 mod operations;
+mod select;
 mod shifts;
 mod signs;
 mod sums;

@@ -39,8 +39,8 @@ pub(crate) fn other_value(
         Alu::Cmp => mk_not(graph, q),
         Alu::Shr1 => halved(graph, q),
         Alu::Shl1 => doubled(graph, q, other_c),
-        Alu::Shl2 => filled(graph, q, 2),
-        Alu::Shl4 => filled(graph, q, 4),
+        Alu::Shl2 => filled(graph, q, 2, 3),
+        Alu::Shl4 => filled(graph, q, 4, 15),
         Alu::Xchg => exchanged(graph, q),
         _ => unreachable!(),
     }
@@ -111,18 +111,19 @@ fn bit_as_word(graph: &mut Graph, c: BitId) -> Result<WordId, OutOfMemory>
 
 /// A word shifted to the left, with ones shifted in.
 #[tactic(auto, using(crate::proofs::ShiftLaws::filled_is))]
-fn filled(graph: &mut Graph, q: WordId, count: u8) -> Result<WordId, OutOfMemory>
+fn filled(graph: &mut Graph, q: WordId, count: u8, ones: u16) -> Result<WordId, OutOfMemory>
     requires count { count < 16 }
+    requires ones { ones + 1 ≡ 2 ^ count }
     requires q { HasWord graph.old q }
     requires room { length graph.old.nodes + 3 ≤ 2 ^ 31 }
     ensures value { IfOk result (λ id. IsWord graph.new id
-        (λ inputs. cut (word_value inputs graph.old q * 2 ^ count + (2 ^ count - 1)))) }
+        (λ inputs. cut (word_value inputs graph.old q * 2 ^ count + ones))) }
     ensures inputs { IfOk result (λ id. BringsOnly graph.old graph.new (q.number ∷ []) id.number) }
     ensures grown { Grown graph.old graph.new }
     ensures adds { AddsAtMost graph.old graph.new 3 16 }
 {
     let shifted = mk_shl(graph, q, count)?;
-    let ones = mk_const(graph, (1 << count) - 1)?;
+    let ones = mk_const(graph, ones)?;
     mk_or(graph, shifted, ones)
 }
 
