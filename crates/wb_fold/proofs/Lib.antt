@@ -3,3 +3,4 @@ pub mod Growth
 pub mod SignLaws
 pub mod ShiftLaws
 pub mod AluFlags
+pub mod RamLaws

@@ -23,13 +23,11 @@ pub(crate) fn select(graph: &mut Graph, words: &[WordId], bits: &[AddressBit]) -
     ensures grown { Grown graph.old graph.new }
     ensures adds { AddsAtMost graph.old graph.new (2 ^ length bits.now - 1) (16 * (2 ^ length bits.now - 1)) }
 {
-    match bits {
-        [] => Ok(words[0]),
-        [top, rest @ ..] => {
-            let half = words.len() / 2;
-            let low = select(graph, &words[..half], rest)?;
-            let high = select(graph, &words[half..], rest)?;
-            mk_ite(graph, top.set, high, low)
-        }
-    }
+    let Some((top, rest)) = bits.split_first() else {
+        return Ok(words[0]);
+    };
+    let (front, back) = words.split_at(words.len() / 2);
+    let low = select(graph, front, rest)?;
+    let high = select(graph, back, rest)?;
+    mk_ite(graph, top.set, high, low)
 }
