@@ -1,5 +1,5 @@
 -- One growth after another.
-use Rattle.std.proofs.Common.{◌≡◌, ℕ, ◌+◌, ◌≤◌, length, ◌∙◌, arith}
+use Rattle.std.proofs.Common.{◌≡◌, ℕ, ◌+◌, ◌≤◌, length, refl, ◌∙◌, arith}
 use Rattle.wb_term.specs.Terms.{Terms}
 use Rattle.wb_term.specs.Growth.{Grown, AddsAtMost, total_weight}
 
@@ -23,4 +23,19 @@ pub adds_more : {f g h : Terms} {m n v w k u : ℕ} → AddsAtMost f g m v → A
 adds_more a b counts weights = record {
   longer_by = omega (arith, a.longer_by, b.longer_by, counts);
   heavier_by = omega (arith, a.heavier_by, b.heavier_by, weights);
+}
+
+pub unchanged : (g : Terms) → Grown g g
+unchanged g = record {
+  tables = refl;
+  longer = omega arith;
+  nodes = λ k n at. at;
+  before = λ k n within at. at;
+  words = λ x there. there;
+  bits = λ c there. there;
+  word_values = λ i x there. refl;
+  bit_values = λ i c there. refl;
+  word_inputs = λ p x there only. only;
+  bit_inputs = λ p c there only. only;
+  under = λ j k within u. u;
 }

@@ -4,3 +4,4 @@ pub mod SignLaws
 pub mod ShiftLaws
 pub mod AluFlags
 pub mod RamLaws
+pub mod AddressLaws
