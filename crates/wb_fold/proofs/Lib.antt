@@ -5,3 +5,4 @@ pub mod ShiftLaws
 pub mod AluFlags
 pub mod RamLaws
 pub mod AddressLaws
+pub mod StoreLaws

@@ -2,7 +2,7 @@
 use Rattle.std.proofs.Common.{◌≡◌, ℕ, ◌+◌, ◌-◌, ◌*◌, ◌/◌, ◌%◌, ◌^◌, ◌<◌, ◌≤◌, Bool, true, false, cond, List, [], ◌∷◌, length, get_or, take, drop, Result, Ok, Err, refl, sym, ap, ◌∙◌, subst, arith, lit<}
 use Rattle.std.proofs.lemmas.List.{get_or-take, get_or-drop, length-take, length-drop}
 use Rattle.std.proofs.lemmas.Nat.{pow_pos}
-use Rattle.std.specs.Prelude.{IfOk}
+use Rattle.std.specs.Prelude.{IfOk, OnOk}
 use Rattle.std.proofs.Math.Nat.{pow-suc}
 use Rattle.wb_term.specs.declared.nodes.WordId.{WordId}
 use Rattle.wb_term.specs.declared.nodes.Node.{Node}
@@ -176,3 +176,7 @@ selected-adds g0 g1 g2 g3 part whole e positive a b c = record {
 -- the bits of an address and one less
 pub power-opened : (bits : List AddressBit) (top : AddressBit) (rest : List AddressBit) → bits ≡ top ∷ rest → 2 ^ length bits ≡ 2 ^ length rest * 2
 power-opened bits top rest e = ap (λ (bs : List AddressBit). 2 ^ length bs) e ∙ pow-suc 2 (length rest)
+
+pub OnOk-map : {A E : Type 0} (P Q : Type 0) → (P → Q) → (r : Result A E) → OnOk r P → OnOk r Q
+OnOk-map P Q f (Ok a) h = f h
+OnOk-map P Q f (Err e) h = h

@@ -1,5 +1,5 @@
 -- A RAM of 256 words of a graph, and the bits of an address.
-use Rattle.std.specs.Prelude.{◌≡◌, ℕ, ◌+◌, ◌*◌, ◌%◌, ◌^◌, ◌<◌, ◌==◌, Bool, not, List, [], ◌∷◌, if◌then◌else◌, length, slice_index_or}
+use Rattle.std.specs.Prelude.{◌≡◌, ℕ, ◌+◌, ◌*◌, ◌%◌, ◌^◌, ◌<◌, ◌==◌, ◌&&◌, Bool, not, List, [], ◌∷◌, ◌++◌, if◌then◌else◌, length, slice_index_or}
 use Rattle.wb_term.specs.declared.nodes.WordId.{WordId}
 use Rattle.wb_term.specs.declared.nodes.BitId.{BitId}
 use Rattle.wb_term.specs.declared.nodes.Node.{Node}
@@ -55,3 +55,17 @@ address inputs g (b ∷ bs) = bit (bit_value inputs g b.set) * 2 ^ length bs + a
 abbrev pub AddressHasOnly : Terms → (Node → Bool) → List AddressBit → Type 0
 AddressHasOnly g allowed [] = Unit {0}
 AddressHasOnly g allowed (b ∷ bs) = HasOnly g allowed b.set.number × HasOnly g allowed b.clear.number × AddressHasOnly g allowed bs
+
+-- The value of an entry after a store that happens where a bit is set and the address bits stand for its place.
+abbrev pub stored_where : Assignment → Terms → List WordId → List AddressBit → BitId → WordId → ℕ → ℕ
+stored_where inputs g words bits here value k =
+    if bit_value inputs g here && (k == address inputs g bits) then word_value inputs g value else word_value inputs g (word_in words k)
+
+-- words after others, that are those of a list after such a store
+pub record AppendsStored (old new : Terms) (words : List WordId) (bits : List AddressBit) (here : BitId) (value : WordId) (before after : List WordId) : Type 0 where
+  pub cells : List WordId
+  pub appended : after ≡ before ++ cells
+  pub len : length cells ≡ length words
+  pub are : AreWords new cells (λ inputs k. stored_where inputs old words bits here value k)
+  pub inputs : (allowed : Node → Bool) → WordsHaveOnly old allowed words → AddressHasOnly old allowed bits →
+      HasOnly old allowed here.number → HasOnly old allowed value.number → WordsHaveOnly new allowed cells

@@ -18,6 +18,7 @@ mod ram;
 mod select;
 mod shifts;
 mod signs;
+mod store;
 mod sums;
 mod words;
 
