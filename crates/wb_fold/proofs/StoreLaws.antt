@@ -14,7 +14,7 @@ use Rattle.wb_term.specs.Values.{IsWord, IsBit, word_value, bit_value}
 use Rattle.wb_term.specs.Under.{HasOnly}
 use Rattle.wb_term.specs.Growth.{Grown, AddsAtMost, total_weight}
 use Rattle.wb_fold.specs.declared.address.AddressBit.{AddressBit}
-use Rattle.wb_fold.specs.Ram.{word_in, HasWords, AreWords, WordsHaveOnly, IsAddressBit, AreAddressBits, AddressHasOnly, address, stored_where, AppendsStored}
+use Rattle.wb_fold.specs.Ram.{word_in, HasWords, AreWords, WordsHaveOnly, IsAddressBit, AreAddressBits, AddressHasOnly, address, stored, stored_where, AppendsStored}
 use Rattle.wb_fold.proofs.Growth.{◌▸◌}
 use Rattle.wb_fold.proofs.RamLaws.{HasWords-take, HasWords-drop, HasWords-kept, WordsHaveOnly-take, WordsHaveOnly-drop, WordsHaveOnly-kept, AreAddressBits-kept, address-kept, address-lt, AddressHasOnly-kept, power-opened}
 
@@ -187,3 +187,31 @@ store-adds_two g0 g1 g2 g3 part whole e positive a b c = record {
   longer_by = omega (arith, a.longer_by, b.longer_by, c.longer_by);
   heavier_by = omega (arith, a.heavier_by, b.heavier_by, c.heavier_by);
 }
+
+-- a store that always happens, at the low 8 bits of a word
+pub stored-always : (g0 g2 g3 : Terms) → Grown g0 g2 → (ram : List WordId) (bits : List AddressBit) (always : BitId) (dp value : WordId) (out : List WordId) →
+    HasWords g0 ram → HasWord g0 value → ((i : Assignment) → IsAssignment i → bit_value i g2 always ≡ true) →
+    ((i : Assignment) → IsAssignment i → address i g2 bits ≡ word_value i g0 dp % 256) → AppendsStored g2 g3 ram bits always value [] out →
+    AreWords g3 out (λ i k. stored i g0 ram dp value k)
+stored-always g0 g2 g3 grown ram bits always dp value out has there_value set at_dp appends =
+    subst (λ (ids : List WordId). AreWords g3 ids (λ i k. stored i g0 ram dp value k)) (sym appends.appended) (record {
+      word = λ k l.
+        let was = appends.are.word k l in
+        let in_ram : k < length ram = omega (arith, l, appends.len) in
+        record {
+          there = was.there;
+          value = λ i is. was.value i is
+            ∙ same_choice _ _ _ _ _ _
+                (ap (λ (v : Bool). v && eqb k (address i g2 bits)) (set i is) ∙ ap (eqb k) (at_dp i is))
+                (grown.word_values i value there_value)
+                (grown.word_values i (word_in ram k) (has.there k in_ram));
+        };
+    })
+
+pub stored-inputs : (g0 g2 g3 : Terms) → Grown g0 g2 → (ram : List WordId) (bits : List AddressBit) (always : BitId) (dp value : WordId) (out : List WordId) →
+    HasWords g0 ram → HasWord g0 value → ((p : Node → Bool) → HasOnly g2 p always.number) →
+    ((p : Node → Bool) → HasOnly g0 p dp.number → AddressHasOnly g2 p bits) → AppendsStored g2 g3 ram bits always value [] out →
+    (p : Node → Bool) → WordsHaveOnly g0 p ram → HasOnly g0 p dp.number → HasOnly g0 p value.number → WordsHaveOnly g3 p out
+stored-inputs g0 g2 g3 grown ram bits always dp value out has there_value none in_dp appends p only_ram only_dp only_value =
+    subst (WordsHaveOnly g3 p) (sym appends.appended)
+        (appends.inputs p (WordsHaveOnly-kept g0 g2 grown p ram has only_ram) (in_dp p only_dp) (none p) (grown.word_inputs p value there_value only_value))

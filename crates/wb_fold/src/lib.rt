@@ -27,7 +27,7 @@ pub use bits::{mk_andb, mk_iteb, mk_notb, mk_orb, mk_pick, mk_xorb};
 pub use comparisons::{mk_borrow, mk_carry, mk_same};
 pub use flags::SymFlags;
 pub use leaves::{mk_byte, mk_cell, mk_const, mk_known};
-pub use ram::ram_select;
+pub use ram::{ram_select, ram_store};
 pub use shifts::{mk_high, mk_look, mk_low, mk_shl, mk_shr};
 pub use sums::{mk_diff, mk_ite, mk_sum};
 pub use wb_term::OutOfMemory;
