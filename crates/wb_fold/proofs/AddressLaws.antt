@@ -1,5 +1,5 @@
 -- The bits of an address, one after another.
-use Rattle.std.proofs.Common.{◌≡◌, ℕ, ◌+◌, ◌-◌, ◌*◌, ◌/◌, ◌%◌, ◌^◌, ◌<◌, ◌≤◌, zero, suc, Bool, true, false, eqb, List, [], ◌∷◌, ◌++◌, length, refl, sym, ap, ◌∙◌, subst, arith, lit<, length-append}
+use Rattle.std.proofs.Common.{◌≡◌, ℕ, ◌+◌, ◌-◌, ◌*◌, ◌/◌, ◌%◌, ◌^◌, ◌<◌, zero, suc, Bool, eqb, List, [], ◌∷◌, ◌++◌, length, refl, sym, ap, ◌∙◌, arith, length-append}
 use Rattle.std.proofs.lemmas.Nat.{mod-pow-add, shr-shr, pow-add}
 use Rattle.std.proofs.Math.Nat.{mul_assoc}
 use Rattle.wb_term.specs.declared.nodes.WordId.{WordId}
@@ -10,7 +10,7 @@ use Rattle.wb_term.specs.Numbers.{bit}
 use Rattle.wb_term.specs.Terms.{Terms, HasWord}
 use Rattle.wb_term.specs.Values.{IsBit, word_value, bit_value}
 use Rattle.wb_term.specs.Under.{HasOnly}
-use Rattle.wb_term.specs.Growth.{Grown, AddsAtMost, total_weight}
+use Rattle.wb_term.specs.Growth.{Grown, AddsAtMost}
 use Rattle.wb_fold.specs.declared.address.AddressBit.{AddressBit}
 use Rattle.wb_fold.specs.Ram.{IsAddressBit, AreAddressBits, AddressHasOnly, address}
 use Rattle.wb_fold.proofs.Growth.{◌▸◌, unchanged}
@@ -28,9 +28,9 @@ address-push : (g : Terms) (i : Assignment) (bs : List AddressBit) (b : AddressB
 address-push g i [] b = omega arith
 address-push g i (x ∷ xs) b =
     with_front (bit (bit_value i g x.set)) (2 ^ length (xs ++ b ∷ [])) (2 ^ length xs) (address i g (xs ++ b ∷ [])) (address i g xs) (bit (bit_value i g b.set))
-        (ap (λ (n : ℕ). 2 ^ n) (length-append xs (b ∷ [])) ∙ pow-add 2 (length xs) 1) (address-push g i xs b) where
-  with_front : (c long short more rest last : ℕ) → long ≡ short * 2 → more ≡ rest * 2 + last → c * long + more ≡ (c * short + rest) * 2 + last
-  with_front c long short more rest last e f = rw (e, f) (omega (arith, mul_assoc c short 2))
+    (ap (λ (n : ℕ). 2 ^ n) (length-append xs (b ∷ [])) ∙ pow-add 2 (length xs) 1) (address-push g i xs b) where
+      with_front : (c long short more rest last : ℕ) → long ≡ short * 2 → more ≡ rest * 2 + last → c * long + more ≡ (c * short + rest) * 2 + last
+      with_front c long short more rest last e f = rw (e, f) (omega (arith, mul_assoc c short 2))
 
 bit_of : (n : ℕ) → bit (eqb (n % 2) 1) ≡ n % 2
 bit_of n = by (n % 2) (omega arith) where
@@ -76,16 +76,16 @@ AreFirst-more old g h dp bits count b first within there grown adds is_bit is_se
   len = omega (arith, length-append bits (b ∷ []), first.len);
   are = AreAddressBits-push h bits b (AreAddressBits-kept g h grown bits first.are) is_bit;
   value = λ i is.
-    let n = word_value i old dp in
-    let same : word_value i g dp ≡ n = first.grown.word_values i dp there in
-    let set : bit (bit_value i h b.set) ≡ n / 2 ^ (7 - count) % 2 =
-        ap bit (is_set.value i is ∙ ap (λ (m : ℕ). eqb (m / 2 ^ (7 - count) % 2) 1) same) ∙ bit_of (n / 2 ^ (7 - count)) in
-    let front : address i h bits ≡ n / 2 ^ (8 - count) % 2 ^ count = address-kept g h grown i bits first.are ∙ first.value i is in
-    address-push h i bits b ∙ ap (λ (m : ℕ). m * 2 + bit (bit_value i h b.set)) front
-    ∙ ap (λ (m : ℕ). n / 2 ^ (8 - count) % 2 ^ count * 2 + m) set ∙ sym (next_bits n count within);
+      let n = word_value i old dp in
+      let same : word_value i g dp ≡ n = first.grown.word_values i dp there in
+      let set : bit (bit_value i h b.set) ≡ n / 2 ^ (7 - count) % 2 =
+      ap bit (is_set.value i is ∙ ap (λ (m : ℕ). eqb (m / 2 ^ (7 - count) % 2) 1) same) ∙ bit_of (n / 2 ^ (7 - count)) in
+      let front : address i h bits ≡ n / 2 ^ (8 - count) % 2 ^ count = address-kept g h grown i bits first.are ∙ first.value i is in
+      address-push h i bits b ∙ ap (λ (m : ℕ). m * 2 + bit (bit_value i h b.set)) front
+      ∙ ap (λ (m : ℕ). n / 2 ^ (8 - count) % 2 ^ count * 2 + m) set ∙ sym (next_bits n count within);
   inputs = λ p dp_only.
-    let both = only p (first.grown.word_inputs p dp there dp_only) in
-    AddressHasOnly-push h p bits b (AddressHasOnly-kept g h grown p bits first.are (first.inputs p dp_only)) both.0 both.1.0;
+      let both = only p (first.grown.word_inputs p dp there dp_only) in
+      AddressHasOnly-push h p bits b (AddressHasOnly-kept g h grown p bits first.are (first.inputs p dp_only)) both.0 both.1.0;
   grown = first.grown ▸ grown;
   adds = record {
     longer_by = omega (arith, first.adds.longer_by, adds.longer_by);

@@ -1,7 +1,7 @@
 -- One growth after another.
-use Rattle.std.proofs.Common.{◌≡◌, ℕ, ◌+◌, ◌≤◌, length, refl, ◌∙◌, arith}
+use Rattle.std.proofs.Common.{ℕ, ◌+◌, ◌≤◌, refl, ◌∙◌, arith}
 use Rattle.wb_term.specs.Terms.{Terms}
-use Rattle.wb_term.specs.Growth.{Grown, AddsAtMost, total_weight}
+use Rattle.wb_term.specs.Growth.{Grown, AddsAtMost}
 
 infixl 10 ◌▸◌
 pub ◌▸◌ : {f g h : Terms} → Grown f g → Grown g h → Grown f h

@@ -1,7 +1,6 @@
 -- Lists of words and the bits of an address, in a graph that grows.
-use Rattle.std.proofs.Common.{◌≡◌, ℕ, ◌+◌, ◌-◌, ◌*◌, ◌/◌, ◌%◌, ◌^◌, ◌<◌, ◌≤◌, Bool, true, false, cond, List, [], ◌∷◌, length, get_or, take, drop, Result, Ok, Err, refl, sym, ap, ◌∙◌, subst, arith, lit<}
+use Rattle.std.proofs.Common.{◌≡◌, ℕ, ◌+◌, ◌-◌, ◌*◌, ◌^◌, ◌<◌, Bool, true, false, cond, List, [], ◌∷◌, length, take, drop, Result, Ok, Err, refl, sym, ap, ◌∙◌, subst, arith, lit<}
 use Rattle.std.proofs.lemmas.List.{get_or-take, get_or-drop, length-take, length-drop}
-use Rattle.std.proofs.lemmas.Nat.{pow_pos}
 use Rattle.std.specs.Prelude.{IfOk, OnOk}
 use Rattle.std.proofs.Math.Nat.{pow-suc}
 use Rattle.wb_term.specs.declared.nodes.WordId.{WordId}
@@ -11,25 +10,25 @@ use Rattle.wb_term.specs.Numbers.{bit}
 use Rattle.wb_term.specs.Terms.{Terms, HasWord}
 use Rattle.wb_term.specs.Values.{IsWord, word_value, bit_value}
 use Rattle.wb_term.specs.Under.{HasOnly}
-use Rattle.wb_term.specs.Growth.{Grown, AddsAtMost, total_weight}
+use Rattle.wb_term.specs.Growth.{Grown, AddsAtMost}
 use Rattle.wb_fold.specs.Inputs.{BringsOnly}
 use Rattle.wb_fold.specs.declared.address.AddressBit.{AddressBit}
-use Rattle.wb_fold.specs.Ram.{word_in, HasWords, AreWords, WordsHaveOnly, IsAddressBit, AreAddressBits, AddressHasOnly, address}
+use Rattle.wb_fold.specs.Ram.{word_in, HasWords, WordsHaveOnly, AreAddressBits, AddressHasOnly, address}
 use Rattle.wb_fold.proofs.Growth.{◌▸◌}
 
 pub HasWords-take : (g : Terms) (ids : List WordId) (n : ℕ) → HasWords g ids → HasWords g (take n ids)
 HasWords-take g ids n has = record {
   there = λ k h.
-    let l : k < n = omega (arith, length-take n ids) in
-    let m : k < length ids = omega (arith, length-take n ids) in
-    subst (HasWord g) (sym (get_or-take n ids k (record { number = 0 }) l)) (has.there k m);
+      let l : k < n = omega (arith, length-take n ids) in
+      let m : k < length ids = omega (arith, length-take n ids) in
+      subst (HasWord g) (sym (get_or-take n ids k (record { number = 0 }) l)) (has.there k m);
 }
 
 pub HasWords-drop : (g : Terms) (ids : List WordId) (n : ℕ) → HasWords g ids → HasWords g (drop n ids)
 HasWords-drop g ids n has = record {
   there = λ k h.
-    let m : n + k < length ids = omega (arith, length-drop n ids) in
-    subst (HasWord g) (sym (get_or-drop n ids k (record { number = 0 }))) (has.there (n + k) m);
+      let m : n + k < length ids = omega (arith, length-drop n ids) in
+      subst (HasWord g) (sym (get_or-drop n ids k (record { number = 0 }))) (has.there (n + k) m);
 }
 
 pub HasWords-kept : (g h : Terms) → Grown g h → (ids : List WordId) → HasWords g ids → HasWords h ids
@@ -38,16 +37,16 @@ HasWords-kept g h grown ids has = record { there = λ k l. grown.words (word_in 
 pub WordsHaveOnly-take : (g : Terms) (p : Node → Bool) (ids : List WordId) (n : ℕ) → WordsHaveOnly g p ids → WordsHaveOnly g p (take n ids)
 WordsHaveOnly-take g p ids n has = record {
   only = λ k h.
-    let l : k < n = omega (arith, length-take n ids) in
-    let m : k < length ids = omega (arith, length-take n ids) in
-    subst (λ (x : WordId). HasOnly g p x.number) (sym (get_or-take n ids k (record { number = 0 }) l)) (has.only k m);
+      let l : k < n = omega (arith, length-take n ids) in
+      let m : k < length ids = omega (arith, length-take n ids) in
+      subst (λ (x : WordId). HasOnly g p x.number) (sym (get_or-take n ids k (record { number = 0 }) l)) (has.only k m);
 }
 
 pub WordsHaveOnly-drop : (g : Terms) (p : Node → Bool) (ids : List WordId) (n : ℕ) → WordsHaveOnly g p ids → WordsHaveOnly g p (drop n ids)
 WordsHaveOnly-drop g p ids n has = record {
   only = λ k h.
-    let m : n + k < length ids = omega (arith, length-drop n ids) in
-    subst (λ (x : WordId). HasOnly g p x.number) (sym (get_or-drop n ids k (record { number = 0 }))) (has.only (n + k) m);
+      let m : n + k < length ids = omega (arith, length-drop n ids) in
+      subst (λ (x : WordId). HasOnly g p x.number) (sym (get_or-drop n ids k (record { number = 0 }))) (has.only (n + k) m);
 }
 
 pub WordsHaveOnly-kept : (g h : Terms) → Grown g h → (p : Node → Bool) (ids : List WordId) → HasWords g ids → WordsHaveOnly g p ids → WordsHaveOnly h p ids
@@ -55,15 +54,18 @@ WordsHaveOnly-kept g h grown p ids has only = record { only = λ k l. grown.word
 
 pub AreAddressBits-kept : (g h : Terms) → Grown g h → (bs : List AddressBit) → AreAddressBits g bs → AreAddressBits h bs
 AreAddressBits-kept g h grown [] are = tt
-AreAddressBits-kept g h grown (b ∷ bs) are = (record {
+AreAddressBits-kept g h grown (b ∷ bs) are = (
+  record {
     set = grown.bits b.set are.0.set;
     clear = grown.bits b.clear are.0.clear;
     opposite = λ i is.
-      let set = grown.bit_values i b.set are.0.set in
-      let clear = grown.bit_values i b.clear are.0.clear in
-      let was = are.0.opposite i is in
-      cc;
-  }, AreAddressBits-kept g h grown bs are.1)
+        let set = grown.bit_values i b.set are.0.set in
+        let clear = grown.bit_values i b.clear are.0.clear in
+        let was = are.0.opposite i is in
+        cc;
+  },
+  AreAddressBits-kept g h grown bs are.1,
+)
 
 pub address-kept : (g h : Terms) → Grown g h → (i : Assignment) (bs : List AddressBit) → AreAddressBits g bs → address i h bs ≡ address i g bs
 address-kept g h grown i [] are = refl
@@ -83,10 +85,10 @@ address-lt g i (b ∷ bs) = with_bit (bit_value i g b.set) (2 ^ length bs) (2 ^ 
 pub AddressHasOnly-kept : (g h : Terms) → Grown g h → (p : Node → Bool) (bs : List AddressBit) → AreAddressBits g bs → AddressHasOnly g p bs → AddressHasOnly h p bs
 AddressHasOnly-kept g h grown p [] are only = tt
 AddressHasOnly-kept g h grown p (b ∷ bs) are only = (
-    grown.bit_inputs p b.set are.0.set only.0,
-    grown.bit_inputs p b.clear are.0.clear only.1,
-    AddressHasOnly-kept g h grown p bs are.1 only.2
-  )
+  grown.bit_inputs p b.set are.0.set only.0,
+  grown.bit_inputs p b.clear are.0.clear only.1,
+  AddressHasOnly-kept g h grown p bs are.1 only.2,
+)
 
 -- The choice between the two halves of a list is the entry at the whole address.
 pub selected-chosen : (g0 g1 g2 g3 : Terms) → Grown g0 g1 → Grown g1 g2 → (words : List WordId) (top : AddressBit) (rest : List AddressBit)
@@ -142,11 +144,11 @@ pub selected-halves : (g0 g1 g2 g3 : Terms) → Grown g0 g1 → Grown g1 g2 → 
     IsWord g3 id (λ i. word_value i g0 (word_in words (address i g0 bits)))
 selected-halves g0 g1 g2 g3 a b words front back bits top rest low high id half is_front is_back is_bits halved len has are is_low is_high is_id =
     subst (λ (bs : List AddressBit). IsWord g3 id (λ i. word_value i g0 (word_in words (address i g0 bs)))) (sym is_bits)
-        (selected-chosen g0 g1 g2 g3 a b words top rest low high id half halved
-            (len ∙ ap (λ (bs : List AddressBit). 2 ^ length bs) is_bits) has (subst (AreAddressBits g0) is_bits are)
-            (subst (λ (ws : List WordId). IsWord g1 low (λ i. word_value i g0 (word_in ws (address i g0 rest)))) is_front is_low)
-            (subst (λ (ws : List WordId). IsWord g2 high (λ i. word_value i g1 (word_in ws (address i g1 rest)))) is_back is_high)
-            is_id)
+    (selected-chosen g0 g1 g2 g3 a b words top rest low high id half halved
+    (len ∙ ap (λ (bs : List AddressBit). 2 ^ length bs) is_bits) has (subst (AreAddressBits g0) is_bits are)
+    (subst (λ (ws : List WordId). IsWord g1 low (λ i. word_value i g0 (word_in ws (address i g0 rest)))) is_front is_low)
+    (subst (λ (ws : List WordId). IsWord g2 high (λ i. word_value i g1 (word_in ws (address i g1 rest)))) is_back is_high)
+    is_id)
 
 pub selected-inputs : (g0 g1 g2 g3 : Terms) → Grown g0 g1 → Grown g1 g2 → (words front back : List WordId) (bits : List AddressBit) (top : AddressBit)
     (rest : List AddressBit) (low high id : WordId) (half : ℕ) → front ≡ take half words → back ≡ drop half words → bits ≡ top ∷ rest →
@@ -162,8 +164,10 @@ selected-inputs g0 g1 g2 g3 a b words front back bits top rest low high id half 
     let back_only = subst (WordsHaveOnly g1 p) (sym is_back) (WordsHaveOnly-kept g0 g1 a p (drop half words) (HasWords-drop g0 words half has) (WordsHaveOnly-drop g0 p words half only_words)) in
     in_id p (
       (a ▸ b).bit_inputs p top.set bits_are.0.set bits_only.0,
-      (in_high p back_only (AddressHasOnly-kept g0 g1 a p rest bits_are.1 bits_only.2),
-       (b.word_inputs p low low_there (in_low p front_only bits_only.2), tt))
+      (
+        in_high p back_only (AddressHasOnly-kept g0 g1 a p rest bits_are.1 bits_only.2),
+        (b.word_inputs p low low_there (in_low p front_only bits_only.2), tt),
+      ),
     )
 
 pub selected-adds : (g0 g1 g2 g3 : Terms) (part whole : ℕ) → whole ≡ part * 2 → 0 < part → AddsAtMost g0 g1 (part - 1) (16 * (part - 1)) →

@@ -1,5 +1,5 @@
 -- The shifts of the ALU, put together from parts that share no bit.
-use Rattle.std.proofs.Common.{◌≡◌, ℕ, ◌+◌, ◌-◌, ◌*◌, ◌/◌, ◌%◌, ◌<◌, ◌≤◌, ◌^◌, Bool, true, false, arith, refl, sym, ap, ◌∙◌, subst, add-zero, bit_or, lit<}
+use Rattle.std.proofs.Common.{◌≡◌, ℕ, ◌+◌, ◌-◌, ◌*◌, ◌/◌, ◌%◌, ◌<◌, ◌^◌, Bool, true, false, arith, refl, sym, ap, ◌∙◌, subst, add-zero, bit_or, lit<}
 use Rattle.std.proofs.lemmas.Nat.{or_shifted, mod-pow-add, shr_high, mod_low, pow_pos}
 use Rattle.wb_term.specs.Numbers.{bit, cut}
 

@@ -1,6 +1,6 @@
 -- Signs of words, and the signed overflow of sums and differences.
-use Rattle.std.proofs.Common.{◌≡◌, ℕ, ◌+◌, ◌-◌, ◌/◌, ◌%◌, ◌<◌, ◌≤◌, Bool, true, false, not, ◌&&◌, ◌||◌, eqb, ltb, leb, ℤ, pos, arith, ap, sym, ◌∙◌, ◌⊎◌, inl, inr, lit<, refl}
-use Rattle.std.specs.Prelude.{◌+ℤ◌, ◌-ℤ◌, nat_le}
+use Rattle.std.proofs.Common.{◌≡◌, ℕ, ◌+◌, ◌-◌, ◌/◌, ◌%◌, ◌<◌, ◌≤◌, Bool, true, false, not, ◌&&◌, ◌||◌, eqb, ltb, ℤ, pos, arith, ap, sym, ◌∙◌, ◌⊎◌, inl, inr, lit<, refl}
+use Rattle.std.specs.Prelude.{◌+ℤ◌, ◌-ℤ◌}
 use Rattle.std.specs.Bool.{beq}
 use Rattle.std.proofs.Math.Nat.{mod-eq_of_lt}
 use Rattle.std.proofs.lemmas.Grind.{common_steps}
@@ -79,12 +79,16 @@ pub sum_overflows : (q p : ℕ) (c : Bool) → q < 65536 → p < 65536 →
 sum_overflows q p c h k = by (cases_lt q 32768) (cases_lt p 32768) where
   d : ℕ
   d = bit c
+
   small : d < 2
   small = bit_lt c
+
   s : ℕ
   s = q + p + d
+
   told : Bool → Bool → Bool
   told x y = not (beq x (sign (cut s))) && not (beq y (sign (cut s)))
+
   by : (q < 32768) ⊎ (32768 ≤ q) → (p < 32768) ⊎ (32768 ≤ p) → told (sign q) (sign p) ≡ is_outside (signed q +ℤ signed p +ℤ pos d)
   by (inl a) (inl b) = settled _ _ _ s 0 _ (both_signs told q p false false (sign_low q a) (sign_low p b)) refl
       (sum_low s (omega (arith, small, a, b))) (sum_signed q p d 0 0 (signed_low q a) (signed_low p b))
@@ -114,12 +118,16 @@ pub difference_overflows : (q p : ℕ) (c : Bool) → q < 65536 → p < 65536 �
 difference_overflows q p c h k = by (cases_lt q 32768) (cases_lt p 32768) where
   d : ℕ
   d = bit c
+
   small : d < 2
   small = bit_lt c
+
   t : ℕ
   t = p + d
+
   told : Bool → Bool → Bool
   told x y = not (beq x y) && not (beq x (sign (less q t)))
+
   by : (q < 32768) ⊎ (32768 ≤ q) → (p < 32768) ⊎ (32768 ≤ p) → told (sign q) (sign p) ≡ is_outside (signed q -ℤ signed p -ℤ pos d)
   by (inl a) (inl b) = settled _ _ _ (q + 0) (0 + t) _ (both_signs told q p false false (sign_low q a) (sign_low p b)) refl
       (same_signs (q + 0) (0 + t) (omega (arith, small, b)) (omega (arith, a))) (difference_signed q p d 0 0 (signed_low q a) (signed_low p b))

@@ -14,7 +14,11 @@ use std::alloc::Global;
 use wb_term::{Graph, OutOfMemory, WordId};
 
 /// The low 8 bits of a word, the highest first.
-pub(crate) fn address_bits(graph: &mut Graph, alloc: Global, dp: WordId) -> Result<Vec<AddressBit>, OutOfMemory>
+pub(crate) fn address_bits(
+    graph: &mut Graph,
+    alloc: Global,
+    dp: WordId,
+) -> Result<Vec<AddressBit>, OutOfMemory>
     requires dp { HasWord graph.old dp }
     requires room { length graph.old.nodes + 16 ≤ 2 ^ 31 }
     ensures len { IfOk result (λ bits. length bits.items ≡ 8) }

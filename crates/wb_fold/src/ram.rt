@@ -16,7 +16,12 @@ use wb_term::{Graph, OutOfMemory, WordId, WordNode};
 /// The word of a RAM of 256 entries at the low 8 bits of an address.
 ///
 /// A constant address gives the entry itself; another makes a tree of choices.
-pub fn ram_select(graph: &mut Graph, alloc: Global, ram: &[WordId], dp: WordId) -> Result<WordId, OutOfMemory>
+pub fn ram_select(
+    graph: &mut Graph,
+    alloc: Global,
+    ram: &[WordId],
+    dp: WordId,
+) -> Result<WordId, OutOfMemory>
     requires ram_len { length ram.now ≡ 256 }
     requires ram { HasWords graph.old ram.now }
     requires dp { HasWord graph.old dp }
@@ -37,7 +42,13 @@ pub fn ram_select(graph: &mut Graph, alloc: Global, ram: &[WordId], dp: WordId) 
 /// Stores a word in a RAM of 256 entries at the low 8 bits of an address.
 ///
 /// A constant address replaces the entry itself; another makes each entry a choice. A refusal leaves the RAM.
-pub fn ram_store(graph: &mut Graph, alloc: Global, ram: &mut [WordId], dp: WordId, value: WordId) -> Result<(), OutOfMemory>
+pub fn ram_store(
+    graph: &mut Graph,
+    alloc: Global,
+    ram: &mut [WordId],
+    dp: WordId,
+    value: WordId,
+) -> Result<(), OutOfMemory>
     requires ram_len { length ram.old ≡ 256 }
     requires ram { HasWords graph.old ram.old }
     requires dp { HasWord graph.old dp }
@@ -60,7 +71,13 @@ pub fn ram_store(graph: &mut Graph, alloc: Global, ram: &mut [WordId], dp: WordI
 }
 
 /// The words of a RAM after a store.
-fn stored_words(graph: &mut Graph, alloc: Global, ram: &[WordId], dp: WordId, value: WordId) -> Result<Vec<WordId>, OutOfMemory>
+fn stored_words(
+    graph: &mut Graph,
+    alloc: Global,
+    ram: &[WordId],
+    dp: WordId,
+    value: WordId,
+) -> Result<Vec<WordId>, OutOfMemory>
     requires ram_len { length ram.now ≡ 256 }
     requires ram { HasWords graph.old ram.now }
     requires dp { HasWord graph.old dp }

@@ -11,7 +11,11 @@ use crate::sums::mk_ite;
 use wb_term::{Graph, OutOfMemory, WordId};
 
 /// The word at the address that the bits stand for, by a tree of choices.
-pub(crate) fn select(graph: &mut Graph, words: &[WordId], bits: &[AddressBit]) -> Result<WordId, OutOfMemory>
+pub(crate) fn select(
+    graph: &mut Graph,
+    words: &[WordId],
+    bits: &[AddressBit],
+) -> Result<WordId, OutOfMemory>
     requires len { length words.now ≡ 2 ^ length bits.now }
     requires words { HasWords graph.old words.now }
     requires bits { AreAddressBits graph.old bits.now }

@@ -7,7 +7,7 @@ pub loop-place-preserved : goal.loop-place-preserved
 loop-place-preserved c =
     let bit = c.in_ok-bit.ensures in
     subst (λ (bits : List AddressBit). AreFirst c.args.graph.now c.address_bit.new.graph c.args.dp bits (c.loop-place.place + 1))
-        (sym c.in_ok-push.ensures.items)
-        (AreFirst-more c.args.graph.now c.loop-place.graph c.address_bit.new.graph c.args.dp c.loop-place.bits.items c.loop-place.place
-            c.in_ok-bit.bit c.loop-place.invariant c.loop-place-test.true c.requires.dp c.address_bit.ensures.grown c.address_bit.ensures.adds
-            bit.bit bit.value bit.inputs)
+    (sym c.in_ok-push.ensures.items)
+    (AreFirst-more c.args.graph.now c.loop-place.graph c.address_bit.new.graph c.args.dp c.loop-place.bits.items c.loop-place.place
+    c.in_ok-bit.bit c.loop-place.invariant c.loop-place-test.true c.requires.dp c.address_bit.ensures.grown c.address_bit.ensures.adds
+    bit.bit bit.value bit.inputs)
