@@ -1,0 +1,8 @@
+pub mod WordLaws
+pub mod Growth
+pub mod SignLaws
+pub mod ShiftLaws
+pub mod AluFlags
+pub mod RamLaws
+pub mod AddressLaws
+pub mod StoreLaws

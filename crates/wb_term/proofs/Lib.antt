@@ -1,0 +1,10 @@
+pub mod Inside
+pub mod Placed
+pub mod Values
+pub mod Same
+pub mod Push
+pub mod Under
+pub mod Growth
+pub mod Fits
+pub mod Settled
+pub mod Agree
