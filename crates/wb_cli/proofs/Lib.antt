@@ -1,3 +1,4 @@
+mod Counting
 mod Digits
 mod Holding
 mod Once

@@ -1,5 +1,6 @@
 //! What follows from the answers of calls.
 ghost use Rattle.wb_cli.specs.Complete.{DoneWorkIsExpected, ValidCallsAreDone};
+ghost use Rattle.wb_cli.specs.Counts.{CountsTellFaults};
 ghost use Rattle.wb_cli.specs.Once.{OneAnswer};
 
 use wb_rom::files_pair_with_images;
@@ -26,3 +27,9 @@ pub fn calls_have_one_answer()
     files_pair_with_images();
     each_script_has_one_transcript();
 }
+
+/// A count of faults rises only where its fault is answered: the shelf's at a read fault, or where that report wasn't
+/// written whole or had no memory; the sink's at a write fault.
+pub fn counts_tell_faults()
+    ensures { CountsTellFaults }
+{}

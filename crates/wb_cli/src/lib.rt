@@ -26,6 +26,6 @@ mod texts;
 mod top;
 mod works;
 
-pub use laws::{calls_have_one_answer, valid_calls_get_through};
+pub use laws::{calls_have_one_answer, counts_tell_faults, valid_calls_get_through};
 pub use statuses::Status;
 pub use top::command;
