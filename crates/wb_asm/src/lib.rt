@@ -15,6 +15,7 @@ mod assembly;
 mod counters;
 mod faults;
 mod filling;
+mod laws;
 mod laying;
 mod layout;
 mod names;
@@ -26,6 +27,10 @@ mod words;
 pub use assembly::assemble;
 pub use counters::Counters;
 pub use faults::{AsmError, AsmFault, AsmKind};
+pub use laws::each_source_has_one_answer;
 pub use layout::Layout;
 pub use names::Names;
 pub use spaces::Space;
+
+#[cfg(test)]
+mod tests;
