@@ -1,0 +1,4 @@
+mod Named
+mod Placing
+mod Filled
+mod Room

@@ -1,0 +1,12 @@
+pub mod Value
+pub mod Space
+pub mod Layout
+pub mod Counters
+pub mod Words
+pub mod Filling
+pub mod Assembly
+pub mod Laid
+pub mod Statements
+pub mod Causes
+pub mod Refusal
+pub mod Reading

@@ -1,0 +1,11 @@
+pub mod Tree
+pub mod Codes
+pub mod View
+pub mod Spelling
+pub mod Separators
+pub mod Expression
+pub mod Mnemonic
+pub mod Clause
+pub mod Statement
+pub mod Source
+pub mod Reading
