@@ -12,18 +12,25 @@ use Rattle.wb_syntax.specs.Separators.{parts}
 use Rattle.wb_syntax.specs.declared.separators.Separator.TheVariants.{Bar}
 use Rattle.wb_syntax.specs.Spelling.{Says, IsMark}
 
+-- the name is this clause by itself
+abbrev pub IsShort : List ℕ → Clause → Type 0
+IsShort name (Step dpl) = (dpl ≢ DpNop) × (name ≡ dpl_name dpl)
+IsShort name (Modify nibble) = (0 < nibble.value) × (name ≡ 109 ∷ digit_char nibble.value ∷ [])
+IsShort name Lower = name ≡ codes "rpdec"
+IsShort name _ = ⊥
+
+-- two names, and a third after a comma, are this clause
+abbrev pub IsLong : List ℕ → List ℕ → List ℕ → Clause → Type 0
+IsLong first second third (Compute alu acc p) = (first ≡ alu_name alu) × (second ≡ acc_name acc) × (third ≡ p_name p)
+IsLong first second third (Move dst src) = (first ≡ codes "mov") × (second ≡ dst_name dst) × (third ≡ src_name src)
+IsLong first second third _ = ⊥
+
 -- the tokens are this clause: 44 is the comma
 abbrev pub IsClause : List ℕ → List Token → Clause → Type 0
-IsClause text tokens (Compute alu acc p) =
-    (first second comma third : Token) × (tokens ≡ first ∷ second ∷ comma ∷ third ∷ [])
-    × Says text first (alu_name alu) × Says text second (acc_name acc) × IsMark comma 44 × Says text third (p_name p)
-IsClause text tokens (Move dst src) =
-    (first second comma third : Token) × (tokens ≡ first ∷ second ∷ comma ∷ third ∷ [])
-    × Says text first (codes "mov") × Says text second (dst_name dst) × IsMark comma 44 × Says text third (src_name src)
-IsClause text tokens (Step dpl) = (dpl ≢ DpNop) × ((word : Token) × (tokens ≡ word ∷ []) × Says text word (dpl_name dpl))
-IsClause text tokens (Modify nibble) =
-    (0 < nibble.value) × ((word : Token) × (tokens ≡ word ∷ []) × Says text word (109 ∷ digit_char nibble.value ∷ []))
-IsClause text tokens Lower = (word : Token) × (tokens ≡ word ∷ []) × Says text word (codes "rpdec")
+IsClause text (word ∷ []) clause = (name : List ℕ) × Says text word name × IsShort name clause
+IsClause text (a ∷ b ∷ comma ∷ c ∷ []) clause =
+    IsMark comma 44 × ((first second third : List ℕ) × Says text a first × Says text b second × Says text c third × IsLong first second third clause)
+IsClause text _ clause = ⊥
 
 -- each of these parts is a clause
 abbrev pub AreClauses : List ℕ → List (List Token) → List Clause → Type 0

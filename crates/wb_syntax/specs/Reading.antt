@@ -3,9 +3,13 @@ use Rattle.std.specs.Prelude.{◌≡◌, ℕ, ◌+◌, Bool, true, false, ◌||�
 use Rattle.std.specs.declared.result.Result.{Result}
 use Rattle.std.specs.declared.result.Result.TheVariants.{Ok, Err}
 use Rattle.wb_lex.specs.declared.tokens.Token.{Token}
+use Rattle.wb_syntax.specs.declared.faults.SyntaxFault.{SyntaxFault}
+use Rattle.wb_syntax.specs.declared.faults.SyntaxFault.TheVariants as fault
 use Rattle.wb_syntax.specs.declared.refusals.Refusal.{Refusal}
 use Rattle.wb_syntax.specs.declared.refusals.Refusal.TheVariants.{Syntax, OutOfMemory}
-use Rattle.wb_syntax.specs.Tree.{Tree, Minus}
+use Rattle.wb_lex.specs.declared.tokens.TokenKind.TheVariants as kind
+use Rattle.wb_syntax.specs.Spelling.{IsMark, IsLabel}
+use Rattle.wb_syntax.specs.Tree.{Tree, Number, Label, Here, Minus}
 use Rattle.wb_syntax.specs.Expression.{has_mark, IsExpr, IsTerm, IsAtom}
 
 -- a refusal for want of memory is free; any other says that nothing of this kind is there
@@ -44,3 +48,21 @@ ReadsFirst text tokens depth start read = IsFirst text tokens depth start read.1
 abbrev pub ReadsExpr : List ℕ → List Token → ℕ → ℕ → Read → Type 0
 ReadsExpr text tokens depth start read =
     IsExpr text tokens depth start read.1 read.0 × (has_mark tokens read.1 42 ≡ false) × (has_sum_mark tokens read.1 ≡ false)
+
+-- the atom that a token is by itself
+abbrev pub IsAlone : List ℕ → Token → Tree → Type 0
+IsAlone text token (Number n) = token.kind ≡ kind.Number n
+IsAlone text token (Label span) = IsLabel text token span
+IsAlone text token Here = IsMark token 36
+IsAlone text token _ = ⊥
+
+-- what stands before a parenthesis that closes, and the place after that
+abbrev pub IsClosing : List Token → ℕ → Tree → Result Read Refusal → Type 0
+IsClosing tokens close x (Ok read) = (has_mark tokens close 41 ≡ true) × (read.0 ≡ x) × (read.1 ≡ close + 1)
+IsClosing tokens close x (Err Syntax) = has_mark tokens close 41 ≡ false
+IsClosing tokens close x (Err OutOfMemory) = ⊥
+
+-- a refusal of a line, as the fault of its text
+abbrev pub IsFault : ℕ → Refusal → SyntaxFault → Type 0
+IsFault line Syntax found = found ≡ fault.Syntax line
+IsFault line OutOfMemory found = found ≡ fault.OutOfMemory

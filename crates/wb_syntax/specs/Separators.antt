@@ -1,5 +1,7 @@
 -- Where the tokens of a text are cut.
-use Rattle.std.specs.Prelude.{ℕ, Bool, true, false, ◌==◌, List}
+use Rattle.std.specs.Prelude.{ℕ, Bool, true, false, ◌==◌, List, []}
+use Rattle.std.specs.declared.option.Option.{Option}
+use Rattle.std.specs.declared.option.Option.TheVariants.{Some, None}
 use Rattle.std.specs.List.{slice_split}
 use Rattle.wb_lex.specs.declared.tokens.Token.{Token}
 use Rattle.wb_lex.specs.declared.tokens.TokenKind.{TokenKind}
@@ -16,3 +18,8 @@ is_separator _ _ = false
 -- the tokens between separators, one part more than there are separators
 abbrev pub parts : Separator → List Token → List (List Token)
 parts separator tokens = slice_split (λ token. is_separator separator token.kind) tokens
+
+-- the parts of what is left, if anything is
+abbrev pub parts_left : Separator → Option (List Token) → List (List Token)
+parts_left separator None = []
+parts_left separator (Some tokens) = parts separator tokens

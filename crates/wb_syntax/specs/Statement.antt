@@ -1,5 +1,5 @@
 -- What one line of a source says, by its tokens.
-use Rattle.std.specs.Prelude.{◌≡◌, ℕ, ⊤, List, [], ◌∷◌}
+use Rattle.std.specs.Prelude.{◌≡◌, ℕ, false, ⊤, List, [], ◌∷◌}
 use Rattle.std.specs.declared.option.Option.{Option}
 use Rattle.std.specs.declared.option.Option.TheVariants.{Some, None}
 use Rattle.wb_lex.specs.declared.tokens.Token.{Token}
@@ -11,7 +11,7 @@ use Rattle.wb_syntax.specs.declared.statements.Body.{Body}
 use Rattle.wb_syntax.specs.declared.statements.Body.TheVariants as variant
 use Rattle.wb_syntax.specs.declared.statements.Statement.{Statement}
 use Rattle.wb_syntax.specs.Clause.{AreFields, empty_word}
-use Rattle.wb_syntax.specs.Expression.{IsExpression}
+use Rattle.wb_syntax.specs.Expression.{has_mark, IsExpression}
 use Rattle.wb_syntax.specs.Mnemonic.{mnemonic_name}
 use Rattle.wb_syntax.specs.Separators.{parts}
 use Rattle.wb_syntax.specs.declared.mnemonics.Mnemonic.{Mnemonic}
@@ -81,12 +81,11 @@ abbrev pub IsBody : List ℕ → List Token → Body → Type 0
 IsBody text [] body = body ≡ variant.Empty
 IsBody text (token ∷ tokens) body = IsInstruction text (token ∷ tokens) body
 
--- the tokens say this after their label, where they have one: 58 is the colon
+-- the tokens say this after their label: a line has one exactly where a colon, 58, is its second token
 abbrev pub IsLabelled : List ℕ → List Token → Option Span → Body → Type 0
-IsLabelled text tokens None body = IsBody text tokens body
+IsLabelled text tokens None body = (has_mark tokens 1 58 ≡ false) × IsBody text tokens body
 IsLabelled text tokens (Some label) body =
-    (name colon : Token) × (rest : List Token) × (tokens ≡ name ∷ colon ∷ rest)
-    × IsLabel text name label × IsMark colon 58 × IsBody text rest body
+    (name colon : Token) × (rest : List Token) × (tokens ≡ name ∷ colon ∷ rest) × IsLabel text name label × IsMark colon 58 × IsBody text rest body
 
 -- the number of a line that isn't empty
 abbrev pub line_number : List Token → ℕ

@@ -1,5 +1,5 @@
 //! What a token of a text is to the grammar.
-ghost use Rattle.std.specs.Prelude.{◌≡◌, MatchBool, MatchOption};
+ghost use Rattle.std.specs.Prelude.{◌≡◌, ℕ, List, MatchBool, MatchOption};
 ghost use Rattle.wb_syntax.specs.declared.spans.Span.{Span};
 ghost use Rattle.wb_syntax.specs.Spelling.{spelling, IsMark, IsLabel, Says};
 
@@ -15,11 +15,15 @@ pub fn spelling<'a>(text: &'a [u8], token: &Token) -> &'a [u8]
     &text[token.start.min(end)..end]
 }
 
-// Whether a token is this name.
-pub fn says(text: &[u8], token: &Token, name: &str) -> bool
-    ensures { MatchBool result (Says text.now token.now name.now) (Says text.now token.now name.now → ⊥) }
+// The name that a token is.
+pub fn name_of<'a>(text: &'a [u8], token: &Token) -> Option<&'a [u8]>
+    ensures { MatchOption result ((name : List ℕ) → Says text.now token.now name → ⊥) (λ name. Says text.now token.now name.now) }
 {
-    token.kind == TokenKind::Name && spelling(text, token) == name.as_bytes()
+    if token.kind == TokenKind::Name {
+        Some(spelling(text, token))
+    } else {
+        None
+    }
 }
 
 // Whether a token is this mark.
