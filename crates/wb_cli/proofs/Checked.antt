@@ -29,11 +29,13 @@ third_refused task first second third bytes next last held also OutOfMemory hold
 unread_refuses : (kind : Kind) (place : ℕ) (bytes : List ℕ) (at : ℕ) → IsRefused kind place bytes (refusal.ReadFault at) → ⊥
 unread_refuses kind.Image place bytes at h = h
 unread_refuses kind.Script place bytes at h = h
+unread_refuses kind.Source place bytes at h = h
 unread_refuses kind.Moves place bytes at h = h
 
 longer_refuses : (kind : Kind) (place : ℕ) (bytes : List ℕ) (at : ℕ) → IsRefused kind place bytes (refusal.TooLong at) → ⊥
 longer_refuses kind.Image place bytes at h = h
 longer_refuses kind.Script place bytes at h = h
+longer_refuses kind.Source place bytes at h = h
 longer_refuses kind.Moves place bytes at h = h
 
 never_unread : (place : ℕ) (kinds : List Kind) (contents : List (List ℕ)) (at : ℕ) → FirstRefused place kinds contents (refusal.ReadFault at) → ⊥

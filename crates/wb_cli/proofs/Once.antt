@@ -5,6 +5,7 @@ use Rattle.wb_base.specs.Faults.{Rose}
 use Rattle.wb_base.specs.Shelf.{Content, IsLonger, IsWhole}
 use Rattle.wb_base.specs.Sink.{Appends}
 use Rattle.wb_rom.specs.declared.images.Image.{Image}
+use Rattle.wb_rom.specs.ImageBytes.{IsImageOf}
 use Rattle.wb_script.specs.declared.items.Item.{Item}
 use Rattle.wb_session.specs.declared.transcripts.Transcript.{Transcript}
 use Rattle.wb_session.specs.Transcript.{IsTranscript}
@@ -22,7 +23,7 @@ use Rattle.wb_cli.specs.Checks.{Held, AnImage, AScript, SomeMoves, FirstRefused}
 use Rattle.wb_cli.specs.Files.{Contents, limit_of, Reads, ReadsAll, FirstUnread, CouldNot, TooLong}
 use Rattle.wb_cli.specs.Once.{AreAlike, IsCalm, TookOneText}
 use Rattle.wb_cli.specs.Outcome.{Makes, Works, PlanComesTo, ComesTo}
-use Rattle.wb_cli.specs.Plan.{NamedFile, Plan, Task, Run, Disassemble, Trace, kinds_of, plan_of}
+use Rattle.wb_cli.specs.Plan.{NamedFile, Plan, Task, Run, Assemble, Disassemble, Trace, kinds_of, plan_of}
 use Rattle.wb_cli.specs.Report.{IsReply, IsReport}
 use Rattle.wb_cli.specs.Status.{ending_status}
 use Rattle.wb_cli.proofs.Holding.{KindLaws, held_once, refused_once, held_or_refused}
@@ -30,6 +31,7 @@ use Rattle.wb_cli.proofs.Holding.{KindLaws, held_once, refused_once, held_or_ref
 -- what the crates below say of contents and of work on them
 pub record WorkLaws : Type 0 where
   pub kinds : KindLaws
+  pub one_file : (first second : List ℕ) (image : Image) → IsImageOf first image → IsImageOf second image → first ≡ second
   pub one_transcript : (image : Image) (items : List Item) (t other : Transcript) → IsTranscript image items t → IsTranscript image items other → t ≡ other
 
 -- the same work on the same files makes one outcome
@@ -37,6 +39,8 @@ makes_once : WorkLaws → (task : Task) (held : List Held) (made other : Outcome
 makes_once laws Run (AnImage image ∷ AScript items ∷ []) (outcome.Ran transcript) (outcome.Ran other) h k =
     ap outcome.Ran (laws.one_transcript image items transcript other h k)
 makes_once laws Run (AnImage image ∷ AScript items ∷ []) (outcome.Ran transcript) _ h k = absurd k
+makes_once laws Assemble (AnImage image ∷ []) (outcome.Assembled built) (outcome.Assembled other) h k = ap outcome.Assembled (h ∙ sym k)
+makes_once laws Assemble (AnImage image ∷ []) (outcome.Assembled built) _ h k = absurd k
 makes_once laws Disassemble (AnImage image ∷ []) (outcome.Listed listed) (outcome.Listed other) h k = ap outcome.Listed (h ∙ sym k)
 makes_once laws Disassemble (AnImage image ∷ []) (outcome.Listed listed) _ h k = absurd k
 makes_once laws (Trace depth) (AnImage a ∷ AnImage b ∷ SomeMoves moves ∷ []) (outcome.Traced text) (outcome.Traced other) h k =
@@ -45,14 +49,15 @@ makes_once laws (Trace depth) (AnImage a ∷ AnImage b ∷ SomeMoves moves ∷ [
 makes_once laws _ _ _ other h k = absurd h
 
 -- an outcome has one report
-report_once : (made : Outcome) (text other : List ℕ) → IsReport made text → IsReport made other → text ≡ other
-report_once (outcome.Ran transcript) text other h k = h ∙ sym k
-report_once (outcome.Listed image) text other h k = h ∙ sym k
-report_once (outcome.Traced traced) text other h k = h ∙ sym k
+report_once : WorkLaws → (made : Outcome) (text other : List ℕ) → IsReport made text → IsReport made other → text ≡ other
+report_once laws (outcome.Ran transcript) text other h k = h ∙ sym k
+report_once laws (outcome.Assembled image) text other h k = laws.one_file text other image h k
+report_once laws (outcome.Listed image) text other h k = h ∙ sym k
+report_once laws (outcome.Traced traced) text other h k = h ∙ sym k
 
-replied_once : (result : Result Outcome Refusal) (end last : Ending) (text other : List ℕ) → IsReply result end text → IsReply result last other → (end ≡ last) × (text ≡ other)
-replied_once (Ok made) end last text other h k = (h.0 ∙ sym k.0, report_once made text other h.1 k.1)
-replied_once (Err refused) end last text other h k = (h.0 ∙ sym k.0, h.1 ∙ sym k.1)
+replied_once : WorkLaws → (result : Result Outcome Refusal) (end last : Ending) (text other : List ℕ) → IsReply result end text → IsReply result last other → (end ≡ last) × (text ≡ other)
+replied_once laws (Ok made) end last text other h k = (h.0 ∙ sym k.0, report_once laws made text other h.1 k.1)
+replied_once laws (Err refused) end last text other h k = (h.0 ∙ sym k.0, h.1 ∙ sym k.1)
 
 -- the first file that isn't read is one, whatever its cause
 one_unread : (told : Contents) (Cause Other : NamedFile → Type 0) (files : List NamedFile) (place other : ℕ)
@@ -244,7 +249,7 @@ answer_once laws met other put also answer second alike calm quiet answers other
     came_once laws c (plan_of met.words) first.writes.right.result right.result first.writes.right.came_to came_here in
     let reply : IsReply right.result first.end first.writes.text =
     subst (λ r. IsReply r first.end first.writes.text) same first.writes.right.reply in
-    let both = replied_once right.result first.end later.end first.writes.text later.writes.text reply right.reply in (
+    let both = replied_once laws right.result first.end later.end first.writes.text later.writes.text reply right.reply in (
       first.answer_is ∙ ap ending_status both.0 ∙ sym later.answer_is,
       record {
         text = first.writes.text;

@@ -17,7 +17,7 @@ use Rattle.wb_cli.specs.Checks.{Held, AnImage, SomeMoves, HoldsAll}
 use Rattle.wb_cli.specs.Complete.{Tells, IsValid, IsDone, IsExpected}
 use Rattle.wb_cli.specs.Files.{Contents, limit_of, ReadsAll, FirstUnread, CouldNot, TooLong}
 use Rattle.wb_cli.specs.Outcome.{Makes, PlanComesTo, ComesTo}
-use Rattle.wb_cli.specs.Plan.{NamedFile, Plan, Task, Run, Disassemble, Trace, kinds_of}
+use Rattle.wb_cli.specs.Plan.{NamedFile, Plan, Task, Run, Assemble, Disassemble, Trace, kinds_of}
 use Rattle.wb_cli.specs.Report.{IsReply, outcome_ending, transcript_ending}
 use Rattle.wb_cli.specs.Status.{ending_status}
 use Rattle.wb_cli.proofs.Holding.{KindLaws, held_once, held_or_refused}
@@ -106,18 +106,29 @@ listing_never_runs : (held : List Held) (transcript : Transcript) → Makes Disa
 listing_never_runs (AnImage image ∷ []) transcript makes = makes
 listing_never_runs _ transcript makes = makes
 
+assembly_never_runs : (held : List Held) (transcript : Transcript) → Makes Assemble held (outcome.Ran transcript) → ⊥
+assembly_never_runs (AnImage image ∷ []) transcript makes = makes
+assembly_never_runs _ transcript makes = makes
+
 trace_never_runs : (depth : ℕ) (held : List Held) (transcript : Transcript) → Makes (Trace depth) held (outcome.Ran transcript) → ⊥
 trace_never_runs depth (AnImage a ∷ AnImage b ∷ SomeMoves moves ∷ []) transcript makes = makes
 trace_never_runs depth _ transcript makes = makes
 
 outcome_is_expected : (task : Task) (held : List Held) (made : Outcome) → Makes task held made → IsExpected task (ending_status (outcome_ending made))
 outcome_is_expected Run held (outcome.Ran transcript) makes = run_is_expected transcript.ended
+outcome_is_expected Run held (outcome.Assembled image) makes = tt
 outcome_is_expected Run held (outcome.Listed image) makes = tt
 outcome_is_expected Run held (outcome.Traced text) makes = tt
+outcome_is_expected Assemble held (outcome.Ran transcript) makes = absurd (assembly_never_runs held transcript makes)
+outcome_is_expected Assemble held (outcome.Assembled image) makes = tt
+outcome_is_expected Assemble held (outcome.Listed image) makes = tt
+outcome_is_expected Assemble held (outcome.Traced text) makes = tt
 outcome_is_expected Disassemble held (outcome.Ran transcript) makes = absurd (listing_never_runs held transcript makes)
+outcome_is_expected Disassemble held (outcome.Assembled image) makes = tt
 outcome_is_expected Disassemble held (outcome.Listed image) makes = tt
 outcome_is_expected Disassemble held (outcome.Traced text) makes = tt
 outcome_is_expected (Trace depth) held (outcome.Ran transcript) makes = absurd (trace_never_runs depth held transcript makes)
+outcome_is_expected (Trace depth) held (outcome.Assembled image) makes = tt
 outcome_is_expected (Trace depth) held (outcome.Listed image) makes = tt
 outcome_is_expected (Trace depth) held (outcome.Traced text) makes = tt
 

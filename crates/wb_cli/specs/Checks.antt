@@ -2,6 +2,7 @@
 use Rattle.std.specs.Prelude.{◌≡◌, ◌≢◌, ◌⊎◌, ℕ, ◌+◌, List, [], ◌∷◌, length}
 use Rattle.std.specs.declared.result.Result.{Result}
 use Rattle.std.specs.declared.result.Result.TheVariants.{Ok, Err}
+use Rattle.wb_asm.specs.Assembly.{IsImageOfText, IsFirstFault}
 use Rattle.wb_rom.specs.declared.images.Image.{Image}
 use Rattle.wb_rom.specs.ImageBytes.{IsImageOf}
 use Rattle.wb_script.specs.declared.items.Item.{Item}
@@ -25,6 +26,7 @@ pub data Held : Type 0 where
 abbrev pub Holds : Kind → List ℕ → Held → Type 0
 Holds kind.Image bytes (AnImage image) = IsImageOf bytes image
 Holds kind.Script text (AScript items) = IsScript text items
+Holds kind.Source text (AnImage image) = IsImageOfText text image
 Holds kind.Moves text (SomeMoves moves) = moves_file.AreMovesOf text moves
 Holds _ _ _ = ⊥
 
@@ -33,6 +35,7 @@ abbrev pub IsRefused : Kind → ℕ → List ℕ → Refusal → Type 0
 IsRefused kind.Image place bytes (refusal.ImageLength at found) =
     (at ≡ place) × (found ≡ length bytes) × (length bytes ≢ 8192)
 IsRefused kind.Script place text (refusal.ScriptLine line) = IsFirstBad text line
+IsRefused kind.Source place text (refusal.SourceFault fault) = IsFirstFault text fault
 IsRefused kind.Moves place text (refusal.MovesLine line) = moves_file.IsFirstBad text line
 IsRefused _ _ _ _ = ⊥
 

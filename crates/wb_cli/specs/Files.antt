@@ -15,6 +15,7 @@ use Rattle.wb_cli.specs.Plan.{NamedFile}
 abbrev pub limit_of : Kind → ℕ
 limit_of kind.Image = 1048576
 limit_of kind.Script = 1048576
+limit_of kind.Source = 1048576
 limit_of kind.Moves = 1048576
 
 -- what a shelf tells of its names

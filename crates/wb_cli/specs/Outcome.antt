@@ -17,11 +17,12 @@ use Rattle.wb_cli.specs.declared.refusals.Stop.{Stop}
 use Rattle.wb_cli.specs.declared.refusals.Stop.TheVariants.{Refused, OutOfMemory}
 use Rattle.wb_cli.specs.Checks.{Held, AnImage, AScript, SomeMoves, HoldsAll, FirstRefused}
 use Rattle.wb_cli.specs.Files.{Contents, ReadsAll, FirstUnread, CouldNot, TooLong}
-use Rattle.wb_cli.specs.Plan.{Plan, Task, Run, Disassemble, Trace, kinds_of}
+use Rattle.wb_cli.specs.Plan.{Plan, Task, Run, Assemble, Disassemble, Trace, kinds_of}
 
 -- what a task makes of what the files hold
 abbrev pub Makes : Task → List Held → Outcome → Type 0
 Makes Run (AnImage image ∷ AScript items ∷ []) (outcome.Ran transcript) = IsTranscript image items transcript
+Makes Assemble (AnImage image ∷ []) (outcome.Assembled assembled) = assembled ≡ image
 Makes Disassemble (AnImage image ∷ []) (outcome.Listed listed) = listed ≡ image
 Makes (Trace depth) (AnImage a ∷ AnImage b ∷ SomeMoves moves ∷ []) (outcome.Traced text) =
     text ≡ trace_bytes a b depth moves

@@ -14,10 +14,11 @@ pub record NamedFile : Type 0 where
   pub name : List ℕ
   pub kind : Kind
 
--- what is done with the contents of the files: a script is run on an image; an image is listed; two images are moved by
--- hand, and so many moves can be taken back
+-- what is done with the contents of the files: a script is run on an image; a source is assembled; an image is listed; two
+-- images are moved by hand, and so many moves can be taken back
 pub data Task : Type 0 where
   Run : Task
+  Assemble : Task
   Disassemble : Task
   Trace : (depth : ℕ) → Task
 
@@ -36,12 +37,19 @@ image_file name = record { name = name; kind = kind.Image }
 abbrev pub script_file : List ℕ → NamedFile
 script_file name = record { name = name; kind = kind.Script }
 
+abbrev pub source_file : List ℕ → NamedFile
+source_file name = record { name = name; kind = kind.Source }
+
 abbrev pub moves_file : List ℕ → NamedFile
 moves_file name = record { name = name; kind = kind.Moves }
 
 -- to run a script on an image
 abbrev pub run_on : List ℕ → List ℕ → Plan
 run_on image script = record { files = image_file image ∷ script_file script ∷ []; task = Run }
+
+-- to assemble a source
+abbrev pub assembly_of : List ℕ → Plan
+assembly_of source = record { files = source_file source ∷ []; task = Assemble }
 
 -- to list an image
 abbrev pub listing_of : List ℕ → Plan
@@ -75,6 +83,11 @@ abbrev pub run_of : List (List ℕ) → Option Plan
 run_of (image ∷ script ∷ []) = admitted (run_on image script)
 run_of _ = None
 
+-- `asm` wants a source
+abbrev pub asm_of : List (List ℕ) → Option Plan
+asm_of (source ∷ []) = admitted (assembly_of source)
+asm_of _ = None
+
 -- `dis` wants an image
 abbrev pub dis_of : List (List ℕ) → Option Plan
 dis_of (image ∷ []) = admitted (listing_of image)
@@ -95,6 +108,7 @@ abbrev pub plan_of : List (List ℕ) → Option Plan
 plan_of [] = None
 plan_of (name ∷ words) =
     if bytes_eq name (codes "run") then run_of words
+    else if bytes_eq name (codes "asm") then asm_of words
     else if bytes_eq name (codes "dis") then dis_of words
     else if bytes_eq name (codes "trace") then trace_of words
     else None

@@ -5,7 +5,10 @@ use Rattle.std.specs.declared.result.Result.{Result}
 use Rattle.std.specs.declared.result.Result.TheVariants.{Ok, Err}
 use Rattle.wb_session.specs.declared.transcripts.Ended.{Ended}
 use Rattle.wb_session.specs.declared.transcripts.Ended.TheVariants.{Done, Early, Silent}
+use Rattle.wb_asm.specs.declared.faults.AsmKind.{AsmKind}
+use Rattle.wb_asm.specs.declared.faults.AsmKind.TheVariants as kind
 use Rattle.wb_dis.specs.Listing.{listing}
+use Rattle.wb_rom.specs.ImageBytes.{IsImageOf}
 use Rattle.wb_session.specs.Texts.{transcript_bytes}
 use Rattle.wb_cli.specs.declared.outcomes.Outcome.{Outcome}
 use Rattle.wb_cli.specs.declared.outcomes.Outcome.TheVariants as outcome
@@ -23,12 +26,14 @@ transcript_ending (Silent _) = ending.Shown
 -- how a call ends that came to an outcome
 abbrev pub outcome_ending : Outcome → Ending
 outcome_ending (outcome.Ran transcript) = transcript_ending transcript.ended
+outcome_ending (outcome.Assembled image) = ending.Fine
 outcome_ending (outcome.Listed image) = ending.Fine
 outcome_ending (outcome.Traced text) = ending.Fine
 
 -- the text is the report of an outcome
 abbrev pub IsReport : Outcome → List ℕ → Type 0
 IsReport (outcome.Ran transcript) text = text ≡ transcript_bytes transcript
+IsReport (outcome.Assembled image) text = IsImageOf text image
 IsReport (outcome.Listed image) text = text ≡ listing image
 IsReport (outcome.Traced traced) text = text ≡ traced
 
@@ -39,11 +44,23 @@ refusal_ending (refusal.ReadFault place) = ending.ReadFault
 refusal_ending (refusal.TooLong place) = ending.Refused
 refusal_ending (refusal.ImageLength place found) = ending.Refused
 refusal_ending (refusal.ScriptLine line) = ending.Refused
+refusal_ending (refusal.SourceFault fault) = ending.Refused
 refusal_ending (refusal.MovesLine line) = ending.Refused
 
 -- places of file words are printed from 1
 abbrev pub printed_place : ℕ → List ℕ
 printed_place place = decimal (place + 1)
+
+-- what is wrong on a line of a source
+abbrev pub fault_text : AsmKind → List ℕ
+fault_text (kind.Byte column) = codes "BYTE " ++ decimal column
+fault_text kind.Wide = codes "WIDE"
+fault_text kind.Syntax = codes "SYNTAX"
+fault_text kind.Twice = codes "TWICE"
+fault_text kind.Unknown = codes "UNKNOWN"
+fault_text kind.Range = codes "RANGE"
+fault_text kind.Overlap = codes "OVERLAP"
+fault_text kind.Past = codes "PAST"
 
 -- the line that says why, without its line feed
 abbrev pub refusal_line : Refusal → List ℕ
@@ -53,6 +70,7 @@ refusal_line (refusal.TooLong place) = codes "FILE " ++ printed_place place ++ c
 refusal_line (refusal.ImageLength place found) =
     codes "IMAGE " ++ printed_place place ++ codes " LENGTH " ++ decimal found
 refusal_line (refusal.ScriptLine line) = codes "LINE " ++ decimal line ++ codes " SCRIPT"
+refusal_line (refusal.SourceFault fault) = codes "LINE " ++ decimal fault.line ++ codes " " ++ fault_text fault.kind
 refusal_line (refusal.MovesLine line) = codes "LINE " ++ decimal line ++ codes " MOVES"
 
 -- the ending and the report of what a call came to

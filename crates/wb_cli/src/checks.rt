@@ -6,6 +6,7 @@ ghost use Rattle.wb_cli.specs.Checks.{AnImage, AScript, SomeMoves, ChecksTo};
 use crate::files::Kind;
 use crate::refusals::{Refusal, Stop};
 use std::alloc::Global;
+use wb_asm::{AsmError, assemble};
 use wb_rom::{Image, ImageFault};
 use wb_script::{Script, ScriptFault, read_script};
 use wb_trace::{Moves, MovesFault, read_moves};
@@ -30,6 +31,18 @@ pub fn checked_script(alloc: Global, place: u8, text: &[u8]) -> Result<Script, S
         Ok(script) => Ok(script),
         Err(ScriptFault::BadLine(line)) => Err(Stop::Refused(Refusal::ScriptLine(line))),
         Err(ScriptFault::OutOfMemory) => Err(Stop::OutOfMemory),
+    }
+}
+
+/// The image of the source in the file at this place.
+pub fn checked_source(alloc: Global, place: u8, text: &[u8]) -> Result<Image, Stop>
+    requires { length text.now ≤ 1048576 }
+    ensures { ChecksTo Kind.Source place text.now (result_map_both AnImage (λ stop. stop) result) }
+{
+    match assemble(alloc, text) {
+        Ok(image) => Ok(image),
+        Err(AsmError::Fault(fault)) => Err(Stop::Refused(Refusal::SourceFault(fault))),
+        Err(AsmError::OutOfMemory) => Err(Stop::OutOfMemory),
     }
 }
 

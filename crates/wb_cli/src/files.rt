@@ -13,6 +13,7 @@ use wb_base::{ReadFault, Shelf, read_whole};
 pub enum Kind {
     Image,
     Script,
+    Source,
     Moves,
 }
 
@@ -22,7 +23,7 @@ impl Kind {
         ensures { result ≡ limit_of self }
     {
         match self {
-            Kind::Image | Kind::Script | Kind::Moves => 1_048_576,
+            Kind::Image | Kind::Script | Kind::Source | Kind::Moves => 1_048_576,
         }
     }
 }

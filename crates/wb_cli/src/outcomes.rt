@@ -16,6 +16,8 @@ use wb_word::OutOfMemory;
 pub enum Outcome {
     /// The script was run.
     Ran(Transcript),
+    /// The source was assembled.
+    Assembled(Image),
     /// The image is to be listed.
     Listed(Image),
     /// The moves were made.
@@ -32,6 +34,13 @@ impl Outcome {
                 let ending = run_ending(transcript.ended);
                 let text = transcript_text(alloc, &transcript)?;
                 Ok(Reply { ending, text })
+            }
+            Outcome::Assembled(image) => {
+                let text = image.to_bytes(alloc)?;
+                Ok(Reply {
+                    ending: Ending::Fine,
+                    text,
+                })
             }
             Outcome::Listed(image) => {
                 let text = disassemble(alloc, &image)?;

@@ -1,7 +1,7 @@
 //! The words of a command line, and the plan that they make.
 ghost use Rattle.std.specs.Prelude.{◌≡◌, ◌≤◌, ◌∷◌, IfSome, map, string_bytes};
 ghost use Rattle.std.specs.Option.{option_map};
-ghost use Rattle.wb_cli.specs.Plan.{plan_of, is_file_word, run_of, dis_of, trace_of, trace_to};
+ghost use Rattle.wb_cli.specs.Plan.{plan_of, is_file_word, run_of, asm_of, dis_of, trace_of, trace_to};
 ghost use Rattle.wb_cli.specs.Planned.{plan_in};
 
 use crate::depths::Depth;
@@ -12,6 +12,8 @@ use crate::numbers::number_in;
 pub enum Plan<'a> {
     /// Runs a script on an image.
     Run(&'a str, &'a str),
+    /// Assembles a source.
+    Assemble(&'a str),
     /// Lists an image.
     Disassemble(&'a str),
     /// Makes moves on two images, of which so many can be taken back.
@@ -34,6 +36,8 @@ fn command_plan<'a>(name: &str, words: &'a [String]) -> Option<Plan<'a>>
 {
     if name == "run" {
         run_plan(words)
+    } else if name == "asm" {
+        asm_plan(words)
     } else if name == "dis" {
         dis_plan(words)
     } else if name == "trace" {
@@ -56,6 +60,15 @@ fn run_plan(words: &[String]) -> Option<Plan<'_>>
         [image, script] if is_file_word(image.as_str()) && is_file_word(script.as_str()) => {
             Some(Plan::Run(image.as_str(), script.as_str()))
         }
+        _ => None,
+    }
+}
+
+fn asm_plan(words: &[String]) -> Option<Plan<'_>>
+    ensures { option_map plan_in result ≡ asm_of (map string_bytes words.now) }
+{
+    match words {
+        [source] if is_file_word(source.as_str()) => Some(Plan::Assemble(source.as_str())),
         _ => None,
     }
 }

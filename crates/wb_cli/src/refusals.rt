@@ -1,10 +1,11 @@
 //! Why a call is refused, and the line that says so.
 ghost use Rattle.std.specs.Prelude.{◌≡◌, ◌+◌, Some};
-ghost use Rattle.wb_cli.specs.Report.{refusal_ending, refusal_line};
+ghost use Rattle.wb_cli.specs.Report.{fault_text, refusal_ending, refusal_line};
 ghost use Rattle.wb_cli.specs.declared.refusals.Stop.TheVariants as stop;
 
 use crate::statuses::Ending;
 use std::fmt;
+use wb_asm::{AsmFault, AsmKind};
 use wb_word::OutOfMemory;
 
 /// Why a call is refused before its work is done. Places are those of file words among the file words of the plan,
@@ -21,6 +22,8 @@ pub enum Refusal {
     ImageLength(u8, usize),
     /// The script has its first bad line here, counted from 1.
     ScriptLine(u32),
+    /// The first fault of the source.
+    SourceFault(AsmFault),
     /// The moves have their first bad line here, counted from 1.
     MovesLine(u32),
 }
@@ -36,6 +39,7 @@ impl Refusal {
             Refusal::TooLong(_)
             | Refusal::ImageLength(..)
             | Refusal::ScriptLine(_)
+            | Refusal::SourceFault(_)
             | Refusal::MovesLine(_) => Ending::Refused,
         }
     }
@@ -46,6 +50,27 @@ fn printed(place: u8) -> u16
     ensures { result ≡ place + 1 }
 {
     u16::from(place) + 1
+}
+
+/// What is wrong on a line of a source, as it is printed.
+#[derive(Clone, Copy)]
+struct Wrong(AsmKind);
+
+impl fmt::Display for Wrong {
+    ghost output = { λ wrong. Some (fault_text wrong.0) };
+
+    fn fmt<W: fmt::Write>(&self, f: &mut fmt::Formatter<W>) -> fmt::Result {
+        match self.0 {
+            AsmKind::Byte(column) => write!(f, "BYTE {column}"),
+            AsmKind::Wide => write!(f, "WIDE"),
+            AsmKind::Syntax => write!(f, "SYNTAX"),
+            AsmKind::Twice => write!(f, "TWICE"),
+            AsmKind::Unknown => write!(f, "UNKNOWN"),
+            AsmKind::Range => write!(f, "RANGE"),
+            AsmKind::Overlap => write!(f, "OVERLAP"),
+            AsmKind::Past => write!(f, "PAST"),
+        }
+    }
 }
 
 impl fmt::Display for Refusal {
@@ -67,6 +92,11 @@ impl fmt::Display for Refusal {
                 write!(f, "IMAGE {number} LENGTH {found}")
             }
             Refusal::ScriptLine(line) => write!(f, "LINE {line} SCRIPT"),
+            Refusal::SourceFault(fault) => {
+                let line = fault.line;
+                let wrong = Wrong(fault.kind);
+                write!(f, "LINE {line} {wrong}")
+            }
             Refusal::MovesLine(line) => write!(f, "LINE {line} MOVES"),
         }
     }

@@ -172,6 +172,36 @@ fn traces(rt: HostRuntime) -> Result<(), Fail> {
     Ok(())
 }
 
+#[test]
+fn sources(rt: HostRuntime) -> Result<(), Fail> {
+    let alloc = rt.alloc();
+    let cases: [(&[u8], &[u8]); 8] = [
+        (b"nop\nld a,%", b"LINE 2 BYTE 6\n"),
+        (b"ld a,4294967296", b"LINE 1 WIDE\n"),
+        (b"nop nop", b"LINE 1 SYNTAX\n"),
+        (b"x: .equ x,5", b"LINE 1 TWICE\n"),
+        (b"jmp nowhere", b"LINE 1 UNKNOWN\n"),
+        (b"jmp 2048", b"LINE 1 RANGE\n"),
+        (b".org 5\nnop\n.org 5\nnop\n", b"LINE 4 OVERLAP\n"),
+        (b".org 2047\nnop\nnop\n", b"LINE 3 PAST\n"),
+    ];
+    for (source, report) in cases {
+        check(&rt, alloc, &["asm", "text"], source, 3, report)?;
+    }
+    let source = b"jmp there\nnop\nthere: ld a,0x1234\n";
+    let mut sink = MemSink::with_room(alloc, 10_000)?;
+    let answer = command(
+        alloc,
+        &words(alloc, &["asm", "text"])?,
+        &mut shelf(alloc, source)?,
+        &mut sink,
+    );
+    assert_eq!(rt; answer.number(), 0);
+    let words = [[0x08, 0x00, 0xA0], [0, 0, 0], [0x01, 0x8D, 0xC4]];
+    assert!(rt; sink.taken() == image(alloc, &words)?.as_slice());
+    Ok(())
+}
+
 /// A listing has a line for each of 2048 program words and 1024 data words.
 #[test]
 fn listing(rt: HostRuntime) -> Result<(), Fail> {
@@ -197,7 +227,7 @@ fn listing(rt: HostRuntime) -> Result<(), Fail> {
 /// Lines that have no plan.
 #[test]
 fn bad_words(rt: HostRuntime) -> Result<(), Fail> {
-    let cases: [&[&str]; 20] = [
+    let cases: [&[&str]; 22] = [
         &[],
         &["run", "a"],
         &["compare", "a", "b", "17", "4"],
@@ -211,6 +241,8 @@ fn bad_words(rt: HostRuntime) -> Result<(), Fail> {
         &["RUN", "echo", "text"],
         &["", "echo", "text"],
         &["--help"],
+        &["asm"],
+        &["asm", ""],
         &["dis"],
         &["dis", ""],
         &["dis", "echo", "echo"],

@@ -1,10 +1,10 @@
 //! What a call comes to: the first step that stops it, or what the work gave.
 ghost use Rattle.std.specs.Prelude.{◌≡◌, ◌≤◌, ℕ, List, [], ◌∷◌, IfOk, length, map, string_bytes};
 ghost use Rattle.wb_cli.specs.Outcome.{ComesTo, GoesTo, WorksTo};
-ghost use Rattle.wb_cli.specs.Plan.{Run, Disassemble, Trace, plan_of, run_on, listing_of, trace_on};
+ghost use Rattle.wb_cli.specs.Plan.{Run, Assemble, Disassemble, Trace, plan_of, run_on, assembly_of, listing_of, trace_on};
 ghost use Rattle.wb_cli.specs.Planned.{plan_in};
 
-use crate::checks::{checked_image, checked_moves, checked_script};
+use crate::checks::{checked_image, checked_moves, checked_script, checked_source};
 use crate::depths::Depth;
 use crate::files::{FileWord, Kind, read_one, read_three, read_two};
 use crate::outcomes::Outcome;
@@ -47,6 +47,7 @@ fn work<S: Shelf>(alloc: Global, shelf: &mut S, plan: &Plan<'_>) -> Result<Outco
 {
     match plan {
         Plan::Run(image, script) => run(alloc, shelf, image, script),
+        Plan::Assemble(source) => build(alloc, shelf, source),
         Plan::Disassemble(image) => list(alloc, shelf, image),
         Plan::Trace(first, second, moves, depth) => {
             trace(alloc, shelf, first, second, moves, *depth)
@@ -81,6 +82,29 @@ fn run_contents(alloc: Global, image_bytes: &[u8], script_text: &[u8]) -> Result
     let script = checked_script(alloc, 1, script_text)?;
     let transcript = run_script(alloc, &image, &script)?;
     Ok(Outcome::Ran(transcript))
+}
+
+/// Assembles the source in a file.
+fn build<S: Shelf>(alloc: Global, shelf: &mut S, source: &str) -> Result<Outcome, Stop>
+    ensures kept { (n : List ℕ) → S.content shelf.new n ≡ S.content shelf.old n }
+    ensures later { S.faults shelf.old ≤ S.faults shelf.new }
+    ensures goes_to { GoesTo (S.content shelf.old) (S.faults shelf.old) (S.faults shelf.new) (assembly_of source.now) result }
+{
+    let source = FileWord {
+        name: source,
+        kind: Kind::Source,
+    };
+    let source_text = read_one(alloc, shelf, &source)?;
+    build_contents(alloc, &source_text)
+}
+
+/// Assembles the source in a text.
+fn build_contents(alloc: Global, source_text: &[u8]) -> Result<Outcome, Stop>
+    requires { length source_text.now ≤ 1048576 }
+    ensures { WorksTo Assemble (Kind.Source ∷ []) (source_text.now ∷ []) result }
+{
+    let image = checked_source(alloc, 0, source_text)?;
+    Ok(Outcome::Assembled(image))
 }
 
 /// Lists the image in a file.
