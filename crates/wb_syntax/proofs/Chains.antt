@@ -2,15 +2,14 @@
 --
 -- A term is an atom and the factors that follow it, one after the other, and an expression a first term and what is
 -- added to it. Where two readings begin alike, the longer one goes on from where the shorter one ends.
-use Rattle.std.proofs.Common.{◌≡◌, ℕ, zero, suc, ◌+◌, ◌<◌, ◌≤◌, ◌⊎◌, inl, inr, Bool, true, false, ◌||◌, eqb, Option, Some, None, List, length, sym, refl, ap, ◌∙◌, subst, arith}
+use Rattle.std.proofs.Common.{◌≡◌, ℕ, zero, suc, ◌+◌, ◌≤◌, ◌⊎◌, inl, inr, Bool, true, false, Option, Some, None, List, length, sym, refl, ap, ◌∙◌, subst, arith}
 use Rattle.std.specs.List.{slice_get}
 use Rattle.std.proofs.lemmas.Bool.{eqb-true, cases_Bool, or_cases, or_right}
 use Rattle.wb_lex.specs.declared.tokens.Token.{Token}
 use Rattle.wb_lex.specs.declared.tokens.TokenKind.{TokenKind}
 use Rattle.wb_lex.specs.declared.tokens.TokenKind.TheVariants as kind
-use Rattle.wb_syntax.specs.declared.spans.Span.{Span}
-use Rattle.wb_syntax.specs.Spelling.{IsLabel, span_of}
-use Rattle.wb_syntax.specs.Tree.{Tree, Number, Label, Here, Minus, Plus, Less, Times}
+use Rattle.wb_syntax.specs.Spelling.{span_of}
+use Rattle.wb_syntax.specs.Tree.{Tree, Number, Label, Minus, Plus, Less, Times}
 use Rattle.wb_syntax.specs.Expression.{Stands, is_mark_kind, is_this_mark, has_mark, IsExpr, IsTerm, IsAtom, term, minus, plus, less, atom, times, number, label, here, inside}
 use Rattle.std.proofs.lemmas.Option.{slice_get_past}
 use Rattle.wb_syntax.specs.Expression.{IsExpression}
@@ -277,9 +276,9 @@ module _ (text : List ℕ) (tokens : List Token) where
       let chain = expr_chain depth s e x is in
       let other = expr_chain depth s e' x' is' in
       let same = firsts_one depth s chain.middle other.middle chain.head other.head one chain.first (whole_front depth chain.middle e chain.head x chain.others star)
-          other.first (whole_front depth other.middle e' other.head x' other.others star') in
+      other.first (whole_front depth other.middle e' other.head x' other.others star') in
       let moved : Sums depth chain.middle chain.head e' x' =
-          subst (λ k. Sums depth k chain.head e' x') (sym same.0) (subst (λ v. Sums depth other.middle v e' x') (sym same.1) other.others) in
+      subst (λ k. Sums depth k chain.head e' x') (sym same.0) (subst (λ v. Sums depth other.middle v e' x') (sym same.1) other.others) in
       sums_one depth chain.middle e e' chain.head x x' one chain.others star ends moved star' ends'
 
   -- where no whole term follows an operator, no expression ends but before an operator
@@ -294,9 +293,9 @@ module _ (text : List ℕ) (tokens : List Token) where
           let chain = expr_chain depth s e x is in
           let other = expr_chain depth s e' x' is' in
           let same = firsts_one depth s chain.middle other.middle chain.head other.head one chain.first
-              (whole_front depth chain.middle e chain.head x chain.others (sum_is_no_star tokens e sum)) other.first whole in
+          (whole_front depth chain.middle e chain.head x chain.others (sum_is_no_star tokens e sum)) other.first whole in
           let moved : Sums depth chain.middle chain.head e' x' =
-              subst (λ k. Sums depth k chain.head e' x') (sym same.0) (subst (λ v. Sums depth other.middle v e' x') (sym same.1) other.others) in
+          subst (λ k. Sums depth k chain.head e' x') (sym same.0) (subst (λ v. Sums depth other.middle v e' x') (sym same.1) other.others) in
           sums_stuck depth chain.middle e e' chain.head x x' one chain.others sum stuck moved
 
   -- nor where no whole term begins it
@@ -341,7 +340,7 @@ module _ (text : List ℕ) (tokens : List Token) where
     atoms_one s e e' x x' (inside _ deeper _ close _ _ below ends mark is closed) (inside _ deeper' _ close' _ _ below' ends' mark' is' closed') =
         let level : deeper' ≡ deeper = omega arith in
         let same = exprs_one deeper (deeper_one deeper below) (s + 1) close close' x x' is (no_star tokens close closed) (no_sum tokens close closed)
-            (subst (λ d. IsExpr text tokens d (s + 1) close' x') level is') (no_star tokens close' closed') (no_sum tokens close' closed') in
+        (subst (λ d. IsExpr text tokens d (s + 1) close' x') level is') (no_star tokens close' closed') (no_sum tokens close' closed') in
         (ends ∙ ap (λ k. k + 1) same.0 ∙ sym ends', same.1)
 
   pub atoms_are_one : (depth : ℕ) → AtomsAreOne depth

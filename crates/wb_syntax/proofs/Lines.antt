@@ -1,16 +1,15 @@
 -- The lines of a text, one after the other.
-use Rattle.std.proofs.Common.{◌≡◌, ℕ, ◌+◌, ◌≤◌, ◌<◌, Option, Some, None, Result, Ok, Err, List, [], ◌∷◌, ◌++◌, length, get_or, sym, refl, ap, ◌∙◌, subst, arith, append_assoc, append-nil}
+use Rattle.std.proofs.Common.{◌≡◌, ℕ, ◌<◌, List, [], ◌∷◌, ◌++◌, length, get_or, sym, refl, ◌∙◌, subst, arith, append_assoc, append-nil}
 use Rattle.std.specs.List.{filter}
 use Rattle.wb_lex.specs.declared.tokens.Token.{Token}
 use Rattle.wb_syntax.specs.declared.faults.SyntaxFault.{SyntaxFault}
-use Rattle.wb_syntax.specs.declared.faults.SyntaxFault.TheVariants as fault
 use Rattle.wb_syntax.specs.declared.refusals.Refusal.{Refusal}
 use Rattle.wb_syntax.specs.declared.refusals.Refusal.TheVariants.{Syntax, OutOfMemory}
 use Rattle.wb_syntax.specs.declared.separators.Separator.TheVariants.{LineEnd}
 use Rattle.wb_syntax.specs.declared.statements.Statement.{Statement}
-use Rattle.wb_syntax.specs.Reading.{IsReading, IsRefusal, IsFault}
+use Rattle.wb_syntax.specs.Reading.{IsRefusal, IsFault}
 use Rattle.wb_syntax.specs.Separators.{parts}
-use Rattle.wb_syntax.specs.Statement.{IsStatement, line_number}
+use Rattle.wb_syntax.specs.Statement.{IsStatement}
 use Rattle.wb_syntax.specs.Source.{is_filled, lines_of, AreStatements, IsSource, IsFirstBad, IsFaultOf}
 
 statements-push : (text : List ℕ) (lines : List (List Token)) (said : List Statement) (line : List Token) (s : Statement) → AreStatements text lines said → IsStatement text line s

@@ -1,9 +1,9 @@
 -- A clause is read in one way, and clauses make one word.
-use Rattle.std.proofs.Common.{◌≡◌, ◌≢◌, ℕ, zero, suc, ◌+◌, ◌<◌, ◌≤◌, ◌⊎◌, inl, inr, Bool, true, false, cond, nat_lt, codes, Option, Some, None, List, [], ◌∷◌, ◌++◌, length, get_or, set, sym, refl, ap, ◌∙◌, subst, arith, get_or-set_other, get_or-set_same, length-set}
+use Rattle.std.proofs.Common.{◌≡◌, ◌≢◌, ℕ, ◌+◌, ◌<◌, ◌≤◌, ◌⊎◌, inl, inr, Bool, true, false, codes, Option, Some, None, List, [], ◌∷◌, length, get_or, set, sym, refl, ap, ◌∙◌, subst, arith, get_or-set_other, get_or-set_same, length-set}
 use Rattle.std.specs.Prelude.{find, bytes_eq}
 use Rattle.std.specs.Coded.{le_prop}
 use Rattle.std.specs.Char.{digit_char}
-use Rattle.std.proofs.lemmas.Bool.{cases_lt, cases_eq, lt-ltb, le-ltb, both_ways}
+use Rattle.std.proofs.lemmas.Bool.{cases_lt, lt-ltb, le-ltb, both_ways}
 use Rattle.wb_lex.specs.declared.tokens.Token.{Token}
 use Rattle.wb_word.specs.Codes.{alu_list, acc_list, p_list, dst_list, src_list, dpl_list}
 use Rattle.wb_word.specs.Names.{alu_name, acc_name, p_name, dst_name, src_name, dpl_name}
@@ -24,7 +24,6 @@ use Rattle.wb_word.specs.declared.words.OpWord.{OpWord}
 use Rattle.wb_syntax.specs.declared.clauses.Clause.{Clause}
 use Rattle.wb_syntax.specs.declared.clauses.Clause.TheVariants.{Compute, Move, Step, Modify, Lower}
 use Rattle.wb_syntax.specs.declared.separators.Separator.TheVariants.{Bar}
-use Rattle.wb_syntax.specs.Spelling.{Says, IsMark}
 use Rattle.wb_syntax.specs.Separators.{parts}
 use Rattle.wb_syntax.specs.Clause.{IsShort, IsLong, IsClause, AreClauses, sort_of, with_clause, with_clauses, empty_word, Lacks, AreApart, AreFields}
 
@@ -154,7 +153,7 @@ one_clause text (x ∷ y ∷ comma ∷ z ∷ []) c d a b =
     let third : others.2 ≡ names.2 = sym others.5.same ∙ names.5.same in
     let is = others.6 in
     let moved : IsLong names.0 names.1 names.2 d =
-        subst (λ n. IsLong names.0 names.1 n d) third (subst (λ n. IsLong names.0 n others.2 d) second (subst (λ n. IsLong n others.1 others.2 d) first is)) in
+    subst (λ n. IsLong names.0 names.1 n d) third (subst (λ n. IsLong names.0 n others.2 d) second (subst (λ n. IsLong n others.1 others.2 d) first is)) in
     one_long names.0 names.1 names.2 c d names.6 moved
 one_clause text (x ∷ y ∷ z ∷ u ∷ v ∷ tokens) c d a b = absurd a
 

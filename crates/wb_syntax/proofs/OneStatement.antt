@@ -1,5 +1,5 @@
 -- A line says one statement at most, and a text is the source of one list of statements or has one first bad line.
-use Rattle.std.proofs.Common.{◌≡◌, ℕ, ◌+◌, ◌<◌, true, false, Option, Some, None, List, [], ◌∷◌, ◌++◌, length, sym, refl, ap, ◌∙◌, subst, arith}
+use Rattle.std.proofs.Common.{◌≡◌, ℕ, true, Option, Some, None, List, [], ◌∷◌, ◌++◌, sym, refl, ap, ◌∙◌, subst}
 use Rattle.wb_lex.specs.declared.tokens.Token.{Token}
 use Rattle.wb_word.specs.Names.{dst_name}
 use Rattle.wb_word.specs.Codes.{dst_list}
@@ -16,8 +16,8 @@ use Rattle.wb_syntax.specs.Tree.{Tree}
 use Rattle.wb_syntax.specs.Spelling.{Says, IsLabel, spelling}
 use Rattle.wb_syntax.specs.Expression.{has_mark, IsExpression}
 use Rattle.wb_syntax.specs.Separators.{parts}
-use Rattle.wb_syntax.specs.Clause.{AreClauses, AreFields, with_clauses, empty_word}
-use Rattle.wb_syntax.specs.Statement.{IsWord, AreExpressions, IsLoad, IsDefinition, IsOperands, IsInstruction, IsBody, IsLabelled, IsStatement, line_number}
+use Rattle.wb_syntax.specs.Clause.{AreClauses, with_clauses, empty_word}
+use Rattle.wb_syntax.specs.Statement.{IsWord, AreExpressions, IsOperands, IsBody, IsLabelled, IsStatement, line_number}
 use Rattle.wb_syntax.specs.Source.{lines_of, AreStatements, IsSource, IsFirstBad}
 use Rattle.wb_syntax.proofs.Chains.{one_tree}
 use Rattle.wb_syntax.proofs.OneClause.{one_clause, one_named, named_dst}

@@ -1,5 +1,5 @@
 -- What follows a mnemonic is read in one way.
-use Rattle.std.proofs.Common.{◌≡◌, ℕ, ◌+◌, ◌≤◌, get_or, drop, Option, Some, None, Result, Ok, Err, List, [], ◌∷◌, ◌++◌, length, sym, refl, ap, ◌∙◌, subst, arith, append_assoc, append-nil, map}
+use Rattle.std.proofs.Common.{◌≡◌, ℕ, ◌≤◌, get_or, drop, Some, Result, Ok, Err, List, [], ◌∷◌, ◌++◌, length, sym, refl, ap, ◌∙◌, subst, arith, append_assoc, append-nil, map}
 use Rattle.std.specs.Option.{unwrap_or}
 use Rattle.wb_lex.specs.declared.tokens.Token.{Token}
 use Rattle.wb_syntax.specs.declared.refusals.Refusal.{Refusal}
@@ -81,7 +81,7 @@ one_mnemonic a b name e f =
     let first = found a name e in
     let second = found b name f in
     let same : named name_or_none all_mnemonics (name_or_none a) ≡ named name_or_none all_mnemonics (name_or_none b) =
-        ap (λ o. named name_or_none all_mnemonics (unwrap_or o [])) (e ∙ sym f) in
+    ap (λ o. named name_or_none all_mnemonics (unwrap_or o [])) (e ∙ sym f) in
     cc
 
 pub same_head : (a b : Token) (xs ys : List Token) → a ∷ xs ≡ b ∷ ys → (a ≡ b) × (xs ≡ ys)
@@ -102,7 +102,6 @@ pub body_is : (text : List ℕ) (head : Token) (rest : List Token) (name : List 
 body_is text head rest name m (Ok body) said named_so is = record { head = head; rest = rest; split = refl; mnemonic = m; name = name; is_named = named_so; said = said; operands = is }
 body_is text head rest name m (Err refusal) said named_so refused =
     refused_by (IsOperands text m rest) (IsBody text (head ∷ rest)) refusal refused (λ body is. (body, operands_of text head rest name m said named_so body is))
-
 
 -- the same of tokens that have a first one
 pub body_at : (text : List ℕ) (tokens : List Token) (d : Token) (name : List ℕ) (m : Mnemonic) (r : Result Body Refusal) → 1 ≤ length tokens → Says text (get_or tokens 0 d) name → mnemonic_name m ≡ Some name

@@ -1,18 +1,17 @@
 -- What the readers of expressions answer.
-use Rattle.std.proofs.Common.{◌≡◌, ℕ, zero, suc, ◌+◌, ◌-◌, ◌<◌, ◌≤◌, ◌⊎◌, inl, inr, Bool, true, false, ◌||◌, cond, Option, Some, None, Result, Ok, Err, List, length, sym, refl, ap, ◌∙◌, subst, arith}
+use Rattle.std.proofs.Common.{◌≡◌, ℕ, ◌+◌, ◌-◌, ◌<◌, ◌≤◌, inl, inr, Bool, true, false, ◌||◌, cond, Option, Some, None, Result, Ok, Err, List, length, sym, refl, ap, subst, arith}
 use Rattle.std.specs.List.{slice_get}
-use Rattle.std.proofs.lemmas.Bool.{cases_Bool, both_ways, eq-eqb, eqb-true}
+use Rattle.std.proofs.lemmas.Bool.{both_ways, eq-eqb, eqb-true}
 use Rattle.wb_lex.specs.declared.tokens.Token.{Token}
 use Rattle.wb_lex.specs.declared.tokens.TokenKind.{TokenKind}
 use Rattle.wb_lex.specs.declared.tokens.TokenKind.TheVariants as kind
 use Rattle.wb_syntax.specs.declared.refusals.Refusal.{Refusal}
 use Rattle.wb_syntax.specs.declared.refusals.Refusal.TheVariants.{Syntax, OutOfMemory}
-use Rattle.wb_syntax.specs.Spelling.{IsLabel}
 use Rattle.wb_syntax.specs.Tree.{Tree, Number, Label, Here, Minus, Plus, Less, Times}
 use Rattle.std.proofs.lemmas.Option.{slice_get_past}
-use Rattle.wb_syntax.specs.Expression.{IsExpression, Stands, is_mark_kind, is_this_mark, has_mark, IsExpr, IsTerm, IsAtom, term, minus, plus, less, atom, times, number, label, here, inside}
+use Rattle.wb_syntax.specs.Expression.{IsExpression, Stands, is_mark_kind, is_this_mark, has_mark, IsExpr, IsTerm, IsAtom, term, minus, plus, less, times, number, label, here, inside}
 use Rattle.wb_syntax.specs.Reading.{IsAlone, IsClosing, IsFirst, has_sum_mark, Read, IsReading, IsRefusal, ReadsAtom, ReadsTerm, ReadsFirst, ReadsExpr}
-use Rattle.wb_syntax.proofs.Chains.{GoesOn, no_star, no_sum, number_is_no_mark, name_is_no_mark, term_no_minus, atoms_are_one, exprs_are_one, term_stuck, no_atom_no_term, expr_stuck, first_stuck, same_token, other_mark, one_mark}
+use Rattle.wb_syntax.proofs.Chains.{GoesOn, no_star, no_sum, number_is_no_mark, name_is_no_mark, term_no_minus, atoms_are_one, exprs_are_one, term_stuck, no_atom_no_term, expr_stuck, first_stuck, same_token, one_mark}
 
 not_false_is_true : (b : Bool) → (b ≡ false → ⊥) → b ≡ true
 not_false_is_true true h = refl

@@ -28,6 +28,6 @@ cut_to_text text start end = by (cases_lt end (length text)) (cases_lt start (mi
         let a : min end (length text) ≡ length text = omega arith in
         let b : min start (min end (length text)) ≡ min end (length text) = omega arith in
         rw (b, a) (
-          ap (take (length text - length text)) (drop_all (length text) text (omega arith))
-          ∙ (take_all (length text - length text) [] (omega arith) ∙ sym (take_all (end - start) [] (omega arith)))
-          ∙ ap (take (end - start)) (sym (drop_all start text (omega arith))))
+        ap (take (length text - length text)) (drop_all (length text) text (omega arith))
+        ∙ (take_all (length text - length text) [] (omega arith) ∙ sym (take_all (end - start) [] (omega arith)))
+        ∙ ap (take (end - start)) (sym (drop_all start text (omega arith))))

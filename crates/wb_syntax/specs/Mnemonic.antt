@@ -1,7 +1,7 @@
 -- The names of the words that statements begin with.
 use Rattle.std.specs.Prelude.{ℕ, List, codes}
 use Rattle.std.specs.declared.option.Option.{Option}
-use Rattle.std.specs.declared.option.Option.TheVariants.{Some, None}
+use Rattle.std.specs.declared.option.Option.TheVariants.{Some}
 use Rattle.wb_word.specs.Names.{cond_name}
 use Rattle.wb_syntax.specs.declared.mnemonics.Mnemonic.{Mnemonic}
 use Rattle.wb_syntax.specs.declared.mnemonics.Mnemonic.TheVariants.{Nop, Op, Rt, Ld, Jump, Org, Dorg, Equ, Word, Dw}

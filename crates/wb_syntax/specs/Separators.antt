@@ -1,5 +1,5 @@
 -- Where the tokens of a text are cut.
-use Rattle.std.specs.Prelude.{ℕ, Bool, true, false, ◌==◌, List, []}
+use Rattle.std.specs.Prelude.{Bool, true, false, ◌==◌, List, []}
 use Rattle.std.specs.declared.option.Option.{Option}
 use Rattle.std.specs.declared.option.Option.TheVariants.{Some, None}
 use Rattle.std.specs.List.{slice_split}

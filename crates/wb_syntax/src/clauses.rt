@@ -45,11 +45,19 @@ impl Clause {
         ensures { result ≡ with_clause word self }
     {
         match self {
-            Clause::Compute(alu, acc, p) => OpWord { alu, acc, p, ..word },
+            Clause::Compute(alu, acc, p) => OpWord {
+                alu,
+                acc,
+                p,
+                ..word
+            },
             Clause::Move(dst, src) => OpWord { dst, src, ..word },
             Clause::Step(dpl) => OpWord { dpl, ..word },
             Clause::Modify(dphm) => OpWord { dphm, ..word },
-            Clause::Lower => OpWord { rpdec: true, ..word },
+            Clause::Lower => OpWord {
+                rpdec: true,
+                ..word
+            },
         }
     }
 }
@@ -76,7 +84,9 @@ fn short(name: &[u8]) -> Option<Clause>
     if name == b"rpdec".as_slice() {
         return Some(Clause::Lower);
     }
-    if let Some(dpl) = dpl_of(name) && dpl != Dpl::DpNop {
+    if let Some(dpl) = dpl_of(name)
+        && dpl != Dpl::DpNop
+    {
         return Some(Clause::Step(dpl));
     }
     match modifier(name) {

@@ -4,9 +4,9 @@ ghost use Rattle.wb_word.specs.declared.words.OpWord.{OpWord};
 ghost use Rattle.wb_syntax.specs.Clause.{AreFields, empty_word};
 ghost use Rattle.wb_syntax.specs.Statement.{IsWord};
 
+use crate::Separator;
 use crate::clauses::clause_of;
 use crate::separators::split_first;
-use crate::Separator;
 use wb_lex::Token;
 use wb_word::{Acc, Alu, Dpl, Dst, Nibble, OpWord, P, Src};
 

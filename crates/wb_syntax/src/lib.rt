@@ -22,6 +22,8 @@ mod separators;
 mod spans;
 mod spelling;
 mod statements;
+#[cfg(test)]
+mod tests;
 
 pub use clauses::Clause;
 pub use exprs::{Expr, Node};

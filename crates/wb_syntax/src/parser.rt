@@ -21,7 +21,11 @@ fn statement(alloc: Global, text: &[u8], tokens: &[Token]) -> Result<Statement, 
     let line = tokens[0].line;
     if !has_mark(tokens, 1, b':') {
         return match body(alloc, text, tokens) {
-            Ok(body) => Ok(Statement { line, label: None, body }),
+            Ok(body) => Ok(Statement {
+                line,
+                label: None,
+                body,
+            }),
             Err(refusal) => Err(refusal),
         };
     }
@@ -29,7 +33,11 @@ fn statement(alloc: Global, text: &[u8], tokens: &[Token]) -> Result<Statement, 
         return Err(Refusal::Syntax);
     };
     match body(alloc, text, &tokens[2..]) {
-        Ok(body) => Ok(Statement { line, label: Some(label), body }),
+        Ok(body) => Ok(Statement {
+            line,
+            label: Some(label),
+            body,
+        }),
         Err(refusal) => Err(refusal),
     }
 }

@@ -20,8 +20,8 @@ pub expr-returns-in_err-y-clause-reading : goal.expr-returns-in_err-y-clause-rea
 expr-returns-in_err-y-clause-reading t c =
     let p = err_from_is_err_and c.from_residual-in_err-y.result c.from_residual-in_err-y.ensures.1 in
     rw (p.1, p.2) (
-      summand_refused c.args.text.now c.args.tokens.now c.args.depth c.args.start _ c.loop-alloc.sum c.loop-alloc.at c.loop-alloc.invariant.is
-      (sym c.has_sum_mark.ensures.value ∙ c.loop-alloc-test.true) c.in_err-y.ensures.reading)
+    summand_refused c.args.text.now c.args.tokens.now c.args.depth c.args.start _ c.loop-alloc.sum c.loop-alloc.at c.loop-alloc.invariant.is
+    (sym c.has_sum_mark.ensures.value ∙ c.loop-alloc-test.true) c.in_err-y.ensures.reading)
 
 pub expr-loop-alloc-preserved : goal.expr-loop-alloc-preserved
 expr-loop-alloc-preserved t c = record {
@@ -60,8 +60,8 @@ pub term-returns-in_err-factor-clause-reading : goal.term-returns-in_err-factor-
 term-returns-in_err-factor-clause-reading t c =
     let p = err_from_is_err_and c.from_residual-in_err-factor.result c.from_residual-in_err-factor.ensures.1 in
     rw (p.1, p.2) (
-      factor_refused c.args.text.now c.args.tokens.now c.args.depth c.args.start _ c.loop-alloc.product c.loop-alloc.at c.loop-alloc.invariant.is
-      (sym c.has_mark.ensures.value ∙ c.loop-alloc-test.true) c.in_err-factor.ensures.reading)
+    factor_refused c.args.text.now c.args.tokens.now c.args.depth c.args.start _ c.loop-alloc.product c.loop-alloc.at c.loop-alloc.invariant.is
+    (sym c.has_mark.ensures.value ∙ c.loop-alloc-test.true) c.in_err-factor.ensures.reading)
 
 pub term-loop-alloc-preserved : goal.term-loop-alloc-preserved
 term-loop-alloc-preserved t c = record {

@@ -19,4 +19,4 @@ pub loop-rest-preserved : goal.loop-rest-preserved
 loop-rest-preserved c =
     let here = rw (c.in-Some.is, c.split_first.ensures.parts) at c.loop-rest.invariant in
     rw (c.sort-sort.ensures.value, c.onto-word.ensures) (
-      next _ _ _ _ _ _ here c.in_ok-clause.clause c.in_ok-clause.ensures (omega (arith, c.sort-sort.ensures.value, c.sort-sort.ensures.below)) (rw c.sort-sort.ensures.value at c.if-seen-sort.false))
+    next _ _ _ _ _ _ here c.in_ok-clause.clause c.in_ok-clause.ensures (omega (arith, c.sort-sort.ensures.value, c.sort-sort.ensures.below)) (rw c.sort-sort.ensures.value at c.if-seen-sort.false))

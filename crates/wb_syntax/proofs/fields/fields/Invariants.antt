@@ -1,4 +1,3 @@
-use Rattle.std.proofs.Common.{◌≡◌, length}
 use Rattle.std.specs.Option.{option_map}
 use Rattle.wb_syntax.specs.Separators.{parts_left}
 use Rattle.wb_syntax.specs.declared.separators.Separator.TheVariants.{Bar}

@@ -1,5 +1,4 @@
-use Rattle.std.proofs.Common.{ℕ, ◌<◌, ◌≡◌, ◌∷◌, sym, ap, ◌∙◌, arith, take, drop, get_or, length, take_all, false}
-use Rattle.std.specs.List.{slice_split, All}
+use Rattle.std.proofs.Common.{sym, ◌∙◌, take_all}
 use Rattle.std.proofs.lemmas.List.{take_rest}
 use Rattle.std.proofs.lemmas.List.Splits.{slice_split_none}
 use Rattle.wb_syntax.specs.Separators.{is_separator}

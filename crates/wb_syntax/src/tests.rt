@@ -1,0 +1,155 @@
+//! Lines that were read by hand.
+use crate::{
+    Body, Node, Source, Span, SyntaxFault, expressions_are_read_in_one_way, parse,
+    statements_are_read_in_one_way,
+};
+use std::alloc::Global;
+use std::process::Abort;
+use std::test::Fail;
+use wb_lex::lex;
+use wb_word::{Acc, Alu, Cond, Dpl, Dst, OpWord, P, Src};
+
+// The statements of a text, or its first bad line.
+fn read(rt: &impl Abort, alloc: Global, text: &[u8]) -> Result<Result<Source, u32>, Fail> {
+    assert!(rt; text.len() <= 1_048_576);
+    let Ok(tokens) = lex(alloc, text) else {
+        return Err(Fail::from("no tokens"));
+    };
+    match parse(alloc, text, &tokens) {
+        Ok(source) => Ok(Ok(source)),
+        Err(SyntaxFault::Syntax(line)) => Ok(Err(line)),
+        Err(SyntaxFault::OutOfMemory) => Err(Fail::from("out of memory")),
+    }
+}
+
+// A text has so many statements, or this is its first bad line.
+fn expect(
+    rt: &impl Abort,
+    alloc: Global,
+    text: &[u8],
+    end: Result<usize, u32>,
+) -> Result<(), Fail> {
+    match read(rt, alloc, text)? {
+        Ok(source) => assert_eq!(rt; Ok(source.as_slice().len()), end, "statements of {text:?}"),
+        Err(line) => assert_eq!(rt; Err(line), end, "bad line of {text:?}"),
+    }
+    Ok(())
+}
+
+#[test]
+fn lines_are_statements_or_not(rt: HostRuntime) -> Result<(), Fail> {
+    expressions_are_read_in_one_way();
+    statements_are_read_in_one_way();
+    let cases: [(&[u8], Result<usize, u32>); 44] = [
+        (b"", Ok(0)),
+        (b"\n;nop\n \r\n", Ok(0)),
+        (b"nop\n\nx:\n", Ok(2)),
+        (b"nop:nop:", Err(1)),
+        (b"op: nop", Ok(1)),
+        (b".x: nop", Err(1)),
+        (b"1: nop", Err(1)),
+        (b": nop", Err(1)),
+        (b"nop nop", Err(1)),
+        (b"NOP", Err(1)),
+        (b"op\nrt", Ok(2)),
+        (b"op add a,ram|mov k,l|dpinc|m1|rpdec", Ok(1)),
+        (b"rt mf", Ok(1)),
+        (b"op nop a,ram", Ok(1)),
+        (b"op nop", Err(1)),
+        (b"op add a", Err(1)),
+        (b"op add a ram", Err(1)),
+        (b"op mov a,b|mov b,a", Err(1)),
+        (b"op m1|m2", Err(1)),
+        (b"op m0", Err(1)),
+        (b"op mg", Err(1)),
+        (b"op dpnop", Err(1)),
+        (b"op rpdec|", Err(1)),
+        (b"op |rpdec", Err(1)),
+        (b"op rpdec,rpdec", Err(1)),
+        (b"op mov non,non", Err(1)),
+        (b"ld a,1", Ok(1)),
+        (b"ld a 1", Err(1)),
+        (b"ld trb,-x*(y+$)", Ok(1)),
+        (b"ld ro,1", Err(1)),
+        (b"jmp", Err(1)),
+        (b"jmp 1,2", Err(1)),
+        (b"jmp --1", Err(1)),
+        (b"jmp 1+-1", Err(1)),
+        (b"jmp (-1)-(-1)", Ok(1)),
+        (b"jmp .x", Err(1)),
+        (b"jmp 1 2", Err(1)),
+        (b"jmp 0x", Err(1)),
+        (b"x: .equ y,1\n.equ z", Err(2)),
+        (b".word 1,2,\n", Err(1)),
+        (b".word 1,2\n.dw 3", Ok(2)),
+        (b".org\n", Err(1)),
+        (b".word ((((((((((((((((1))))))))))))))))", Ok(1)),
+        (b"\n.word (((((((((((((((((1)))))))))))))))))", Err(2)),
+    ];
+    for (text, end) in cases {
+        expect(&rt, rt.alloc(), text, end)?;
+    }
+    Ok(())
+}
+
+#[test]
+fn an_expression_has_256_operators_at_most(rt: HostRuntime) -> Result<(), Fail> {
+    let mut text = Vec::new(rt.alloc());
+    text.extend_from_slice(b".word -1")?;
+    for _ in 1..256 {
+        text.extend_from_slice(b"*1")?;
+    }
+    expect(&rt, rt.alloc(), text.as_slice(), Ok(1))?;
+    text.extend_from_slice(b"-1")?;
+    expect(&rt, rt.alloc(), text.as_slice(), Err(1))
+}
+
+#[test]
+fn statements_say_what_their_lines_say(rt: HostRuntime) -> Result<(), Fail> {
+    let text = b"x: rt adc b,idb|mov k,l|dpdec|mc|rpdec\njrqm $\n\ny: .equ z,2-3*4\n";
+    let Ok(source) = read(&rt, rt.alloc(), text.as_slice())? else {
+        return Err(Fail::from("a bad line"));
+    };
+    let [first, second, third] = source.as_slice() else {
+        return Err(Fail::from("not three statements"));
+    };
+    assert_eq!(&rt; (first.line, second.line, third.line), (1, 2, 4));
+    assert_eq!(&rt; first.label, Some(Span { start: 0, end: 1 }));
+    assert_eq!(&rt; second.label, None);
+    match &first.body {
+        Body::Rt(
+            OpWord {
+                p: P::Idb,
+                alu: Alu::Adc,
+                acc: Acc::B,
+                dpl: Dpl::DpDec,
+                dphm,
+                rpdec: true,
+                src: Src::L,
+                dst: Dst::K,
+            },
+        ) => {
+            assert_eq!(&rt; dphm.value(), 12);
+        }
+        _ => return Err(Fail::from("first statement")),
+    }
+    match &second.body {
+        Body::Jump(Cond::Jrqm, x) => assert!(&rt; matches!(x.node, Node::Here)),
+        _ => return Err(Fail::from("second statement")),
+    }
+    let Body::Equ(name, value) = &third.body else {
+        return Err(Fail::from("third statement"));
+    };
+    assert_eq!(&rt; *name, Span { start: 55, end: 56 });
+    let Node::Less(x, y) = &value.node else {
+        return Err(Fail::from("no difference"));
+    };
+    assert!(&rt; matches!(x.node, Node::Number(2)));
+    match &y.node {
+        Node::Times(x, y) => {
+            assert!(&rt; matches!((&x.node, &y.node), (Node::Number(3), Node::Number(4))));
+        }
+        _ => return Err(Fail::from("no product")),
+    }
+    Ok(())
+}
