@@ -9,3 +9,4 @@ pub mod Spelled
 pub mod Entries
 pub mod Placed
 pub mod Listed
+pub mod Apart

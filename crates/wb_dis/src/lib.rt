@@ -11,7 +11,7 @@ mod laws;
 mod lines;
 mod listings;
 
-pub use laws::listings_assemble;
+pub use laws::{lines_tell_words_apart, listings_assemble};
 pub use lines::{TextLine, line_of};
 pub use listings::disassemble;
 
