@@ -2,3 +2,4 @@ mod Named
 mod Placing
 mod Filled
 mod Room
+mod Sole

@@ -2,7 +2,7 @@
 
 /// The places of the next words, of the program memory and of the data memory.
 #[derive(Clone, Copy)]
-pub(crate) struct Counters {
+pub struct Counters {
     pub prog: u16,
     pub drom: u16,
 }

@@ -6,7 +6,7 @@ use std::alloc::{AllocError, Global};
 
 /// How far a source is laid out: its two memories, and the names of its earlier lines.
 #[derive(Drop)]
-pub(crate) struct Layout<'a> {
+pub struct Layout<'a> {
     pub prog: Space,
     pub drom: Space,
     pub names: Names<'a>,

@@ -8,7 +8,7 @@ use std::marker::Model;
 
 /// Names in the order of their definitions, each with its number.
 #[derive(Drop)]
-pub(crate) struct Names<'a> {
+pub struct Names<'a> {
     numbers: IndexMap<&'a [u8], i64>,
 }
 

@@ -8,7 +8,7 @@ use std::marker::Model;
 
 /// A memory that is being laid out: where the next word goes, and whether a word stands at each place.
 #[derive(Drop)]
-pub(crate) struct Space {
+pub struct Space {
     at: u16,
     taken: Vec<bool>,
 }

@@ -1,3 +1,11 @@
 pub mod NameLengths
 pub mod Growth
 pub mod Numbered
+pub mod Parts
+pub mod Grammar
+pub mod Words
+pub mod Clauses
+pub mod Spelled
+pub mod Entries
+pub mod Placed
+pub mod Listed

@@ -5,10 +5,6 @@ use Rattle.std.specs.Prelude.{ℕ, ◌+◌, ◌/◌, ◌%◌, ◌^◌, nat_lt, i
 abbrev pub hex_digit : ℕ → ℕ
 hex_digit value = if nat_lt value 10 then 48 + value else 55 + value
 
--- a digit in small letters: `a` is 97
-abbrev pub small_digit : ℕ → ℕ
-small_digit value = if nat_lt value 10 then 48 + value else 87 + value
-
 -- an address, in three digits
 abbrev pub hex3 : ℕ → List ℕ
 hex3 n = hex_digit (n / 2 ^ 8 % 16) ∷ hex_digit (n / 2 ^ 4 % 16) ∷ hex_digit (n % 16) ∷ []

@@ -1,5 +1,6 @@
 -- The canonical line of a word: the one way in which a listing spells it.
 use Rattle.std.specs.Prelude.{ℕ, ◌+◌, ◌==◌, if◌then◌else◌, List, [], ◌∷◌, ◌++◌, codes}
+use Rattle.std.specs.Char.{digit_char}
 use Rattle.std.specs.List.{flat_map, join_by}
 use Rattle.std.specs.Option.{option_to_list}
 use Rattle.std.specs.declared.option.Option.{Option}
@@ -11,11 +12,11 @@ use Rattle.wb_word.specs.declared.words.Instr.{Instr}
 use Rattle.wb_word.specs.declared.words.Instr.TheVariants.{Op, Rt, Jp, Ld}
 use Rattle.wb_word.specs.declared.words.OpWord.{OpWord}
 use Rattle.wb_word.specs.declared.codes.Dst.{Dst}
-use Rattle.wb_dis.specs.Digits.{small_digit, hex3, hex4, hex6}
+use Rattle.wb_dis.specs.Digits.{hex3, hex4, hex6}
 
 -- the clause of a number that is XORed into the high four bits of DP
 abbrev pub m_name : ℕ → List ℕ
-m_name n = codes "m" ++ small_digit n ∷ []
+m_name n = codes "m" ++ digit_char n ∷ []
 
 -- what the ALU does, unless all three of its fields are 0
 abbrev pub alu_clause : OpWord → Option (List ℕ)

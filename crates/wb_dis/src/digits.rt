@@ -1,6 +1,6 @@
 //! Numbers in hexadecimal, written at the end of a line.
 ghost use Rattle.std.specs.Prelude.{◌≡◌, ◌<◌, ◌≤◌, ◌+◌, ◌^◌, ◌++◌, ◌∷◌, [], length};
-ghost use Rattle.wb_dis.specs.Digits.{hex_digit, small_digit, hex3, hex4, hex6};
+ghost use Rattle.wb_dis.specs.Digits.{hex_digit, hex3, hex4, hex6};
 
 use crate::lines::TextLine;
 
