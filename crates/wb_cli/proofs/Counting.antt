@@ -1,5 +1,5 @@
 -- A count of faults stays but where its fault is answered.
-use Rattle.std.proofs.Common.{◌≡◌, ℕ, List, Option, None, Some, Result, Ok, Err, sym, ◌∙◌, subst}
+use Rattle.std.proofs.Common.{◌≡◌, ℕ, List, Option, None, Some, Result, Ok, Err}
 use Rattle.wb_cli.specs.declared.outcomes.Outcome.{Outcome}
 use Rattle.wb_cli.specs.declared.refusals.Refusal.{Refusal}
 use Rattle.wb_cli.specs.declared.refusals.Refusal.TheVariants as refusal

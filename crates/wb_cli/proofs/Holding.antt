@@ -8,8 +8,9 @@ use Rattle.wb_cli.specs.declared.files.Kind.{Kind}
 use Rattle.wb_cli.specs.declared.files.Kind.TheVariants as kind
 use Rattle.wb_cli.specs.declared.refusals.Refusal.{Refusal}
 use Rattle.wb_cli.specs.declared.refusals.Refusal.TheVariants as refusal
+use Rattle.wb_asm.specs.declared.faults.AsmFault.{AsmFault}
+use Rattle.wb_asm.specs.Assembly.{IsImageOfText, IsFirstFault}
 use Rattle.wb_trace.specs.Moves.{EachTextHasOneAnswer}
-use Rattle.wb_cli.proofs.Sources.{SourceLaws}
 use Rattle.wb_cli.specs.Checks.{Held, AnImage, AScript, SomeMoves, Holds, IsRefused, HoldsAll, FirstRefused}
 
 -- what the crates below say of images and scripts
@@ -19,7 +20,9 @@ pub record KindLaws : Type 0 where
   pub one_line : (text : List ℕ) (line other : ℕ) → IsFirstBad text line → IsFirstBad text other → line ≡ other
   pub script_never_both : (text : List ℕ) (items : List Item) (line : ℕ) → IsScript text items → IsFirstBad text line → ⊥
   pub moves : EachTextHasOneAnswer
-  pub sources : SourceLaws
+  pub one_source_image : (text : List ℕ) (first second : Image) → IsImageOfText text first → IsImageOfText text second → first ≡ second
+  pub one_source_fault : (text : List ℕ) (first second : AsmFault) → IsFirstFault text first → IsFirstFault text second → first ≡ second
+  pub source_never_both : (text : List ℕ) (image : Image) (fault : AsmFault) → IsImageOfText text image → IsFirstFault text fault → ⊥
 
 never_both : KindLaws → (kind : Kind) (place : ℕ) (bytes : List ℕ) (held : Held) (refusal : Refusal) → Holds kind bytes held → IsRefused kind place bytes refusal → ⊥
 never_both laws kind.Image place bytes (AnImage image) (refusal.ImageLength at found) holds refused = refused.2 holds.len
@@ -27,7 +30,7 @@ never_both laws kind.Image place bytes (AnImage image) _ holds refused = refused
 never_both laws kind.Script place text (AScript items) (refusal.ScriptLine line) holds refused = laws.script_never_both text items line holds refused
 never_both laws kind.Script place text (AScript items) _ holds refused = refused
 never_both laws kind.Source place text (AnImage image) (refusal.SourceFault fault) holds refused =
-    laws.sources.never_both text image fault holds refused
+    laws.source_never_both text image fault holds refused
 never_both laws kind.Source place text (AnImage image) _ holds refused = refused
 never_both laws kind.Moves place text (SomeMoves moves) (refusal.MovesLine line) holds refused =
     laws.moves.never_both text moves line holds refused
@@ -39,7 +42,7 @@ one_held laws kind.Image bytes (AnImage image) (AnImage other) h k = ap AnImage 
 one_held laws kind.Image bytes (AnImage image) _ h k = absurd k
 one_held laws kind.Script text (AScript items) (AScript others) h k = ap AScript (laws.one_script text items others h k)
 one_held laws kind.Script text (AScript items) _ h k = absurd k
-one_held laws kind.Source text (AnImage image) (AnImage other) h k = ap AnImage (laws.sources.one_image text image other h k)
+one_held laws kind.Source text (AnImage image) (AnImage other) h k = ap AnImage (laws.one_source_image text image other h k)
 one_held laws kind.Source text (AnImage image) _ h k = absurd k
 one_held laws kind.Moves text (SomeMoves moves) (SomeMoves others) h k = ap SomeMoves (laws.moves.one_list text moves others h k)
 one_held laws kind.Moves text (SomeMoves moves) _ h k = absurd k
@@ -51,7 +54,7 @@ one_refusal laws kind.Image place bytes (refusal.ImageLength at found) _ h k = a
 one_refusal laws kind.Script place text (refusal.ScriptLine line) (refusal.ScriptLine other) h k = ap refusal.ScriptLine (laws.one_line text line other h k)
 one_refusal laws kind.Script place text (refusal.ScriptLine line) _ h k = absurd k
 one_refusal laws kind.Source place text (refusal.SourceFault fault) (refusal.SourceFault other) h k =
-    ap refusal.SourceFault (laws.sources.one_fault text fault other h k)
+    ap refusal.SourceFault (laws.one_source_fault text fault other h k)
 one_refusal laws kind.Source place text (refusal.SourceFault fault) _ h k = absurd k
 one_refusal laws kind.Moves place text (refusal.MovesLine line) (refusal.MovesLine other) h k =
     ap refusal.MovesLine (laws.moves.one_line text line other h k)

@@ -9,7 +9,7 @@ use Rattle.wb_cli.specs.Answers.{Answers, Met, Put}
 use Rattle.wb_cli.specs.Checks.{Held, HoldsAll}
 use Rattle.wb_cli.specs.Files.{Contents, limit_of}
 use Rattle.wb_cli.specs.Outcome.{Makes}
-use Rattle.wb_cli.specs.Plan.{NamedFile, Plan, Task, Run, Disassemble, Trace, kinds_of, plan_of}
+use Rattle.wb_cli.specs.Plan.{NamedFile, Plan, Task, Run, kinds_of, plan_of}
 use Rattle.wb_cli.specs.Report.{outcome_ending}
 use Rattle.wb_cli.specs.Status.{ending_status}
 

@@ -3,11 +3,10 @@ ghost use Rattle.wb_cli.specs.Complete.{DoneWorkIsExpected, ValidCallsAreDone};
 ghost use Rattle.wb_cli.specs.Counts.{CountsTellFaults};
 ghost use Rattle.wb_cli.specs.Once.{OneAnswer};
 
-use wb_lex::each_text_has_one_answer as each_text_has_tokens_or_a_fault;
+use wb_asm::each_source_has_one_answer;
 use wb_rom::files_pair_with_images;
 use wb_script::each_text_has_one_answer;
 use wb_session::each_script_has_one_transcript;
-use wb_syntax::statements_are_read_in_one_way;
 use wb_trace::each_text_has_one_answer as each_moves_file_has_one_answer;
 
 /// A valid call without a fault does its work, and ends with a status of its command, or is refused memory.
@@ -17,8 +16,7 @@ pub fn valid_calls_get_through()
 {
     each_text_has_one_answer();
     each_moves_file_has_one_answer();
-    each_text_has_tokens_or_a_fault();
-    statements_are_read_in_one_way();
+    each_source_has_one_answer();
     files_pair_with_images();
 }
 
@@ -28,8 +26,7 @@ pub fn calls_have_one_answer()
 {
     each_text_has_one_answer();
     each_moves_file_has_one_answer();
-    each_text_has_tokens_or_a_fault();
-    statements_are_read_in_one_way();
+    each_source_has_one_answer();
     files_pair_with_images();
     each_script_has_one_transcript();
 }

@@ -5,9 +5,10 @@
 //! the first step that failed, with its cause (`specs/Outcome.antt`), and that decides the report (`specs/Report.antt`)
 //! and the exit status. `specs/Files.antt` and `specs/Checks.antt` say how files are read and checked, for all commands
 //! alike. A new command is one more case of `Plan`, of `Task` with `Makes`, and of `Outcome` with its report.
-//! `plans.rt` reads the words, `files.rt` reads the files, `checks.rt` checks their contents, `works.rt` does the work,
-//! `outcomes.rt` and `refusals.rt` have what it comes to and the reports, `statuses.rt` the exit statuses, `top.rt` the
-//! call itself, `laws.rt` what follows for every call.
+//! `plans.rt` reads the words, with `numbers.rt` and `depths.rt`; `files.rt` reads the files, `checks.rt` checks their
+//! contents, `works.rt` does the work; `outcomes.rt` with `texts.rt` and `refusals.rt` have what a call comes to,
+//! `replies.rt` its report, `statuses.rt` the exit statuses; `top.rt` has the call itself, and `laws.rt` what follows for
+//! every call.
 #![tactic(auto)]
 
 mod checks;

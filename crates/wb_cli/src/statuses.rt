@@ -11,7 +11,7 @@ pub enum Status {
     Shown,
     /// The words are no command line of this program. No file was read.
     BadWords,
-    /// A file is too long, or its content is no image or no script.
+    /// A file is too long, or its content isn't what the command wants.
     Refused,
     /// A file couldn't be read.
     ReadFault,

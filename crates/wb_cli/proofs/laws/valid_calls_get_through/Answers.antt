@@ -1,6 +1,5 @@
 use Rattle.wb_cli.proofs.Holding.{KindLaws}
 use Rattle.wb_cli.proofs.Valid.{done_is_expected, valid_is_done}
-use Rattle.wb_cli.proofs.Sources.{source_laws}
 use Rattle.wb_cli.proofs.laws.valid_calls_get_through.Goals as goal
 
 pub returns : goal.returns
@@ -11,15 +10,8 @@ returns c =
       one_line = c.each_text_has_one_answer.ensures.one_line;
       script_never_both = c.each_text_has_one_answer.ensures.never_both;
       moves = c.each_text_has_one_answer-2.ensures;
-      sources = source_laws (record {
-        one_list = c.each_text_has_one_answer-3.ensures.one_list;
-        tokens_or_fault = c.each_text_has_one_answer-3.ensures.never_both;
-        one_lex_fault = c.each_text_has_one_answer-3.ensures.one_fault;
-        one_source = c.statements_are_read_in_one_way.ensures.one_source;
-        source_or_bad = c.statements_are_read_in_one_way.ensures.never_both;
-        one_bad = c.statements_are_read_in_one_way.ensures.one_line;
-        some_file = c.files_pair_with_images.ensures.some_file;
-        one_image = c.files_pair_with_images.ensures.one_image;
-      });
+      one_source_image = c.each_source_has_one_answer.ensures.one_image;
+      one_source_fault = c.each_source_has_one_answer.ensures.one_fault;
+      source_never_both = c.each_source_has_one_answer.ensures.never_both;
     } in
     record { done = valid_is_done laws; expected = done_is_expected }

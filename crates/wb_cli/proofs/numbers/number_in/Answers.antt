@@ -1,4 +1,4 @@
-use Rattle.std.proofs.Common.{rules, arith, ◌≡◌, ◌<◌, length, true}
+use Rattle.std.proofs.Common.{rules, ◌≡◌, ◌<◌, length, true}
 use Rattle.std.specs.Char.{is_digit}
 use Rattle.std.specs.List.{list_all}
 use Rattle.wb_cli.proofs.Digits.{past_range}
