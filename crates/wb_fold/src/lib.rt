@@ -32,3 +32,6 @@ pub use shifts::{mk_high, mk_look, mk_low, mk_shl, mk_shr};
 pub use sums::{mk_diff, mk_ite, mk_sum};
 pub use wb_term::OutOfMemory;
 pub use words::{mk_and, mk_not, mk_or, mk_xor};
+
+#[cfg(test)]
+mod tests;
