@@ -3,6 +3,7 @@ mod Placing
 mod Fits
 mod OnePlacing
 mod Ruled
+mod Walk
 mod Filled
 mod Room
 mod Sole
