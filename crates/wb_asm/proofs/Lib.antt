@@ -4,6 +4,7 @@ mod Fits
 mod OnePlacing
 mod Ruled
 mod Walk
+mod Placed
 mod Filled
 mod Room
 mod Sole

@@ -1,6 +1,6 @@
 -- What the rules of a statement say, and what the third reading computes of it, are one.
-use Rattle.std.proofs.Common.{◌≡◌, ℕ, zero, suc, ◌+◌, ℤ, Bool, true, false, List, [], ◌∷◌, ◌++◌, map, length, Option, Some, None, refl, sym, ap, ◌∙◌, subst, arith}
-use Rattle.std.specs.Prelude.{⊤, pos, is_some, if◌then◌else◌}
+use Rattle.std.proofs.Common.{◌≡◌, ℕ, zero, suc, ◌+◌, ℤ, List, [], ◌∷◌, ◌++◌, map, length, Option, Some, None, refl, sym, ap, ◌∙◌, subst, arith}
+use Rattle.std.specs.Prelude.{pos, is_some, if◌then◌else◌}
 use Rattle.std.proofs.lemmas.List.{append-nil, length-map}
 use Rattle.wb_syntax.specs.Tree.{Tree}
 use Rattle.wb_syntax.specs.declared.spans.Span.{Span}
@@ -8,7 +8,6 @@ use Rattle.wb_syntax.specs.declared.statements.Body.{Body}
 use Rattle.wb_syntax.specs.declared.statements.Body.TheVariants.{Empty, Op, Rt, Ld, Jump, Org, Dorg, Equ, Words, Dwords}
 use Rattle.wb_syntax.specs.declared.statements.Statement.{Statement}
 use Rattle.wb_asm.specs.declared.counters.Counters.{Counters}
-use Rattle.wb_asm.specs.declared.faults.AsmKind.{AsmKind}
 use Rattle.wb_asm.specs.declared.faults.AsmKind.TheVariants.{Twice}
 use Rattle.wb_asm.specs.declared.layout.Layout.{Layout}
 use Rattle.wb_asm.specs.Counters.{counters_of}

@@ -37,7 +37,7 @@ unfolding built
 same_fault f g l k = ap (λ line. built line f.kind) l ∙ ap (λ (kind : AsmKind). built g.line kind) k
 
 module _ (below : Below) (text : List ℕ) where
-  one_says : (ss ts : List Statement) → Says text ss → Says text ts → ss ≡ ts
+  pub one_says : (ss ts : List Statement) → Says text ss → Says text ts → ss ≡ ts
   one_says ss ts a b =
       let same = below.one_list text b.cut a.cut b.tokens a.tokens in
       below.one_source text a.cut ss ts a.source (subst (λ (t : List Token). IsSource text t ts) same b.source)

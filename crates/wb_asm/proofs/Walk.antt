@@ -1,14 +1,10 @@
 -- The third and the fourth reading find no fault exactly where the rules hold and each word has a free place.
-use Rattle.std.proofs.Common.{◌≡◌, ℕ, zero, suc, ◌+◌, ℤ, ◌<◌, ◌≤◌, Bool, true, false, List, [], ◌∷◌, ◌++◌, map, length, get_or, set, Option, Some, None, refl, sym, ap, ◌∙◌, subst, arith}
-use Rattle.std.specs.Prelude.{⊤, nat_le, if◌then◌else◌}
+use Rattle.std.proofs.Common.{◌≡◌, ℕ, zero, suc, ◌+◌, ℤ, ◌<◌, Bool, false, List, [], ◌∷◌, ◌++◌, map, length, get_or, set, Option, Some, None, refl, sym, ap, ◌∙◌, subst, arith}
 use Rattle.std.specs.Option.{option_or}
-use Rattle.std.proofs.lemmas.Grind.{common_steps}
 use Rattle.wb_syntax.specs.declared.statements.Body.{Body}
 use Rattle.wb_syntax.specs.declared.statements.Body.TheVariants.{Empty, Op, Rt, Ld, Jump, Org, Dorg, Equ, Words, Dwords}
 use Rattle.wb_syntax.specs.declared.statements.Statement.{Statement}
 use Rattle.wb_asm.specs.declared.counters.Counters.{Counters}
-use Rattle.wb_asm.specs.declared.faults.AsmKind.{AsmKind}
-use Rattle.wb_asm.specs.declared.faults.AsmFault.{AsmFault}
 use Rattle.wb_asm.specs.declared.layout.Layout.{Layout}
 use Rattle.wb_asm.specs.Counters.{on_line, first_misplaced, laid_out, counters_of, counters}
 use Rattle.wb_asm.specs.Layout.{here, program_words, data_words, with_label, early_number, early_fault, program_after, data_after, after, label_fault, equ_fault, place_fault, line_fault}
@@ -36,9 +32,11 @@ words_fit line zero space [] later count free fits = fits
 words_fit line zero space (word ∷ words) later count free fits = cc
 words_fit line (suc n) space [] later count free fits = cc
 words_fit line (suc n) space (word ∷ words) later count free fits =
-    let first = or_none_left (word_fault space) (words_fault n (with_word space)) free in
-    (word_room space first, word_free space first,
-    words_fit line n (with_word space) words later (suc_same (length words) n count) (or_none_right (word_fault space) (words_fault n (with_word space)) free) fits)
+    let first = or_none_left (word_fault space) (words_fault n (with_word space)) free in (
+      word_room space first,
+      word_free space first,
+      words_fit line n (with_word space) words later (suc_same (length words) n count) (or_none_right (word_fault space) (words_fault n (with_word space)) free) fits,
+    )
 
 both_none : {T : Type 0} (a b : Option T) → a ≡ None → b ≡ None → option_or a b ≡ None
 both_none None b h g = g
@@ -178,18 +176,26 @@ laid_line text names before statement statements good values later = record {
   prog = prog_own text names (counters_of before) statement ++ later.prog;
   drom = drom_own text names (counters_of before) statement ++ later.drom;
   laid = record {
-    rules = (counters_of (after text before statement), own_label text (here_at (counters_of before) statement.body) statement.label,
+    rules = (
+      counters_of (after text before statement),
+      own_label text (here_at (counters_of before) statement.body) statement.label,
       own_equ text before.names before.prog.at statement.body,
-      prog_own text names (counters_of before) statement, drom_own text names (counters_of before) statement, later.prog, later.drom,
-      ruled_line text names before statement good values, refl, refl,
+      prog_own text names (counters_of before) statement,
+      drom_own text names (counters_of before) statement,
+      later.prog,
+      later.drom,
+      ruled_line text names before statement good values,
+      refl,
+      refl,
       subst (λ (n : Names). AreRuled text names n (counters_of (after text before statement)) statements later.prog later.drom)
-      (names_after text before statement) later.laid.rules);
+          (names_after text before statement) later.laid.rules,
+    );
     prog_fits = words_fit statement.line (program_words statement.body) before.prog
-      (map (content_word text names (here_at (counters_of before) statement.body)) (contents statement.body)) later.prog
-      (prog_count _ statement.body) good.prog (subst (λ (t : List Bool). Fits t later.prog) (after_prog text before statement) later.laid.prog_fits);
+        (map (content_word text names (here_at (counters_of before) statement.body)) (contents statement.body)) later.prog
+        (prog_count _ statement.body) good.prog (subst (λ (t : List Bool). Fits t later.prog) (after_prog text before statement) later.laid.prog_fits);
     drom_fits = words_fit statement.line (data_words statement.body) before.drom
-      (map (data_word text names (here_at (counters_of before) statement.body)) (data_values statement.body)) later.drom
-      (drom_count _ statement.body) good.drom (subst (λ (t : List Bool). Fits t later.drom) (after_drom text before statement) later.laid.drom_fits);
+        (map (data_word text names (here_at (counters_of before) statement.body)) (data_values statement.body)) later.drom
+        (drom_count _ statement.body) good.drom (subst (λ (t : List Bool). Fits t later.drom) (after_drom text before statement) later.laid.drom_fits);
   };
 }
 
@@ -283,9 +289,9 @@ faultless_laid text names before (statement ∷ statements) prog drom
     let in_prog = prog_stand text names before statement prog own_prog later_prog g.prog_words gp prog_fits in
     let in_drom = drom_stand text names before statement drom own_drom later_drom g.drom_words gd drom_fits in
     let rest = faultless_laid text names (after text before statement) statements later_prog later_drom
-      (ruled_after text names before next statement label equ own_prog own_drom g statements later_prog later_drom gs)
-      (subst (λ (t : List Bool). Fits t later_prog) (sym (after_prog text before statement)) in_prog.fits)
-      (subst (λ (t : List Bool). Fits t later_drom) (sym (after_drom text before statement)) in_drom.fits) in
+    (ruled_after text names before next statement label equ own_prog own_drom g statements later_prog later_drom gs)
+    (subst (λ (t : List Bool). Fits t later_prog) (sym (after_prog text before statement)) in_prog.fits)
+    (subst (λ (t : List Bool). Fits t later_drom) (sym (after_drom text before statement)) in_drom.fits) in
     let good = line_free text names before next statement label equ own_prog own_drom later_prog later_drom g in_prog in_drom in
     record {
       placed = both_none (on_line statement.line (line_fault text before statement)) _ (ap (on_line statement.line) (line_good text before statement good)) rest.placed;

@@ -114,17 +114,12 @@ pub record IsPlacedImage (text : List ℕ) (statements : List Statement) (image 
   pub in_prog : HasPlaced 2048 prog image.prog
   pub in_drom : HasPlaced 1024 drom image.drom
 
--- the image of a text is that of names and placements that satisfy every rule
-abbrev pub ImagesArePlaced : Type 0
-ImagesArePlaced = (text : List ℕ) (statements : List Statement) → Says text statements → (image : Image)
-    → IsImageOfText text image → IsPlacedImage text statements image
+-- an image is that of a text exactly where it is that of names and placements that satisfy every rule
+abbrev pub ImagesArePlacings : Type 0
+ImagesArePlacings = (text : List ℕ) (statements : List Statement) → Says text statements → (image : Image)
+    → IsImageOfText text image ↔ IsPlacedImage text statements image
 
--- what names and placements that satisfy every rule say is the image of the text
-abbrev pub PlacedAreImages : Type 0
-PlacedAreImages = (text : List ℕ) (statements : List Statement) → Says text statements → (image : Image)
-    → IsPlacedImage text statements image → IsImageOfText text image
-
--- a text has one such pair at most
+-- a text has at most one such pair
 abbrev pub PlacingsAreOne : Type 0
 PlacingsAreOne = (text : List ℕ) (statements : List Statement) (names other_names : Names) (prog other_prog drom other_drom : List Placement)
     → IsPlacing text statements names prog drom → IsPlacing text statements other_names other_prog other_drom

@@ -1,7 +1,7 @@
 //! What holds of every source.
 ghost use Rattle.std.specs.Prelude.{◌≡◌, ℕ, List};
 ghost use Rattle.wb_asm.specs.Assembly.{IsImageOfText, IsFirstFault};
-ghost use Rattle.wb_asm.specs.Placing.{PlacingsAreOne};
+ghost use Rattle.wb_asm.specs.Placing.{ImagesArePlacings, PlacingsAreOne};
 ghost use Rattle.wb_asm.specs.declared.faults.AsmFault.{AsmFault};
 ghost use Rattle.wb_rom.specs.declared.images.Image.{Image};
 
@@ -21,8 +21,17 @@ pub fn each_source_has_one_answer()
     files_pair_with_images();
 }
 
-/// The names and placements that satisfy every rule are one. There is nothing to run; a caller learns what it
-/// ensures.
+/// An image is that of a text exactly where it is that of a map from names to numbers and of placements that satisfy
+/// every rule. There is nothing to run; a caller learns what it ensures.
+pub fn images_are_placings()
+    ensures { ImagesArePlacings }
+{
+    each_text_has_one_answer();
+    statements_are_read_in_one_way();
+    files_pair_with_images();
+}
+
+/// A text has at most one such map with such placements. There is nothing to run; a caller learns what it ensures.
 pub fn placings_are_one()
     ensures { PlacingsAreOne }
 {}

@@ -27,7 +27,7 @@ mod words;
 pub use assembly::assemble;
 pub use counters::Counters;
 pub use faults::{AsmError, AsmFault, AsmKind};
-pub use laws::{each_source_has_one_answer, placings_are_one};
+pub use laws::{each_source_has_one_answer, images_are_placings, placings_are_one};
 pub use layout::Layout;
 pub use names::Names;
 pub use spaces::Space;
