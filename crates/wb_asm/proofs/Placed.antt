@@ -15,7 +15,6 @@ use Rattle.wb_asm.specs.Value.{Names}
 use Rattle.wb_asm.specs.Words.{first_misvalued}
 use Rattle.wb_asm.proofs.Filled.{zeros_is}
 use Rattle.wb_asm.proofs.Fits.{Fits, IsFree, each_mapped, fits_free, fits_apart, apart_fits, filled, filled_length, filled_other, filled_words}
-use Rattle.wb_asm.proofs.Sole.{Below, one_says}
 use Rattle.wb_asm.proofs.Walk.{SomeLaid, laid_faultless, faultless_laid, prog_filled_is, drom_filled_is}
 
 -- before the first line
@@ -128,11 +127,12 @@ module _ (text : List ℕ) (statements : List Statement) (image : Image) where
             ∙ sym (drom_filled_is text (all_names text statements) start statements h.prog h.drom (zeros 1024) laid);
       }
 
-module _ (below : Below) (text : List ℕ) (statements : List Statement) (says : Says text statements) (image : Image) where
+module _ (text : List ℕ) (statements : List Statement) (says : Says text statements)
+    (one_says : (ss ts : List Statement) → Says text ss → Says text ts → ss ≡ ts) (image : Image) where
   pub text_placed : IsImageOfText text image → IsPlacedImage text statements image
   text_placed h =
       image_placed text statements image
-      (subst (λ (ss : List Statement). IsImageOfStatements text ss image) (one_says below text h.statements statements h.says says)
+      (subst (λ (ss : List Statement). IsImageOfStatements text ss image) (one_says h.statements statements h.says says)
       (record { placed = h.placed; valued = h.valued; prog = h.prog; drom = h.drom }))
 
   pub placed_text : IsPlacedImage text statements image → IsImageOfText text image

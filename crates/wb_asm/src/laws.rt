@@ -28,7 +28,6 @@ pub fn images_are_placings()
 {
     each_text_has_one_answer();
     statements_are_read_in_one_way();
-    files_pair_with_images();
 }
 
 /// A text has at most one such map with such placements. There is nothing to run; a caller learns what it ensures.
