@@ -8,3 +8,4 @@ mod Placed
 mod Filled
 mod Room
 mod Sole
+mod Once

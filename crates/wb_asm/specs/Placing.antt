@@ -91,6 +91,11 @@ AreRuled text names earlier at (statement ∷ statements) prog drom =
     × (drom ≡ own_drom ++ later_drom)
     × AreRuled text names (earlier ++ label ++ equ) next statements later_prog later_drom
 
+-- no name is given twice
+abbrev pub AreOnce : Names → Type 0
+AreOnce [] = ⊤
+AreOnce (entry ∷ names) = Each (λ other. other.0 ≢ entry.0) names × AreOnce names
+
 -- names and placements that satisfy every rule
 pub record IsPlacing (text : List ℕ) (statements : List Statement) (names : Names) (prog drom : List Placement) : Type 0 where
   pub rules : AreRuled text names [] (record { prog = 0; drom = 0 }) statements prog drom
@@ -124,3 +129,8 @@ abbrev pub PlacingsAreOne : Type 0
 PlacingsAreOne = (text : List ℕ) (statements : List Statement) (names other_names : Names) (prog other_prog drom other_drom : List Placement)
     → IsPlacing text statements names prog drom → IsPlacing text statements other_names other_prog other_drom
     → (names ≡ other_names) × (prog ≡ other_prog) × (drom ≡ other_drom)
+
+-- and gives no name twice
+abbrev pub NamesAreOnce : Type 0
+NamesAreOnce = (text : List ℕ) (statements : List Statement) (names : Names) (prog drom : List Placement)
+    → IsPlacing text statements names prog drom → AreOnce names

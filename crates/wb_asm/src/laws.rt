@@ -1,7 +1,7 @@
 //! What holds of every source.
 ghost use Rattle.std.specs.Prelude.{◌≡◌, ℕ, List};
 ghost use Rattle.wb_asm.specs.Assembly.{IsImageOfText, IsFirstFault};
-ghost use Rattle.wb_asm.specs.Placing.{ImagesArePlacings, PlacingsAreOne};
+ghost use Rattle.wb_asm.specs.Placing.{ImagesArePlacings, PlacingsAreOne, NamesAreOnce};
 ghost use Rattle.wb_asm.specs.declared.faults.AsmFault.{AsmFault};
 ghost use Rattle.wb_rom.specs.declared.images.Image.{Image};
 
@@ -30,7 +30,9 @@ pub fn images_are_placings()
     statements_are_read_in_one_way();
 }
 
-/// A text has at most one such map with such placements. There is nothing to run; a caller learns what it ensures.
+/// A text has at most one such map with such placements, and the map gives no name twice. There is nothing to run; a
+/// caller learns what it ensures.
 pub fn placings_are_one()
-    ensures { PlacingsAreOne }
+    ensures one { PlacingsAreOne }
+    ensures names { NamesAreOnce }
 {}
