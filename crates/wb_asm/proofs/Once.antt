@@ -1,5 +1,5 @@
 -- The rules give no name twice.
-use Rattle.std.proofs.Common.{◌≡◌, ◌≢◌, ℕ, ℤ, Bool, true, false, cond, List, [], ◌∷◌, ◌++◌, Option, Some, None, refl, sym, ap, ◌∙◌, subst}
+use Rattle.std.proofs.Common.{◌≡◌, ◌≢◌, ℕ, ℤ, Bool, true, false, cond, List, [], ◌∷◌, ◌++◌, Option, Some, None, sym, ap, ◌∙◌, subst}
 use Rattle.std.specs.Prelude.{pos}
 use Rattle.std.specs.Str.{bytes_eq}
 use Rattle.std.proofs.lemmas.List.{append-nil}
@@ -27,10 +27,11 @@ each_added P (y ∷ ys) x h p = (h.0, each_added P ys x h.1 p)
 
 once_added : (names : Names) (name : List ℕ) (number : ℤ) → AreOnce names → IsNew names name → AreOnce (names ++ (name, number) ∷ [])
 once_added [] name number once new = (tt, tt)
-once_added (entry ∷ names) name number once new =
-    (each_added (λ other. other.0 ≢ entry.0) names (name, number) once.0
-    (λ same. not_found (bytes_eq name entry.0) entry.1 (number_named names name) new ((bytes_eq-Decides name entry.0).1 same)),
-    once_added names name number once.1 (found_later (bytes_eq name entry.0) entry.1 (number_named names name) new))
+once_added (entry ∷ names) name number once new = (
+  each_added (λ other. other.0 ≢ entry.0) names (name, number) once.0
+      (λ same. not_found (bytes_eq name entry.0) entry.1 (number_named names name) new ((bytes_eq-Decides name entry.0).1 same)),
+  once_added names name number once.1 (found_later (bytes_eq name entry.0) entry.1 (number_named names name) new),
+)
 
 added : (names own : Names) (name : List ℕ) (number : ℤ) → own ≡ (name, number) ∷ [] → AreOnce names → IsNew names name → AreOnce (names ++ own)
 added names own name number e once new =
