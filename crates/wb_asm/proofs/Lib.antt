@@ -1,5 +1,11 @@
 mod Named
 mod Placing
+mod Fits
+mod OnePlacing
+mod Ruled
+mod Walk
+mod Placed
 mod Filled
 mod Room
 mod Sole
+mod Once

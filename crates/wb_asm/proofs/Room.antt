@@ -22,15 +22,15 @@ pub record IsWithin (size : ℕ) (space : Space) : Type 0 where
   pub places : length space.taken ≡ size
   pub counter : space.at ≤ size
 
-or_none_left : {T : Type 0} (a b : Option T) → option_or a b ≡ None → a ≡ None
+pub or_none_left : {T : Type 0} (a b : Option T) → option_or a b ≡ None → a ≡ None
 or_none_left None b h = refl
 or_none_left (Some x) b h = cc
 
-or_none_right : {T : Type 0} (a b : Option T) → option_or a b ≡ None → b ≡ None
+pub or_none_right : {T : Type 0} (a b : Option T) → option_or a b ≡ None → b ≡ None
 or_none_right None b h = h
 or_none_right (Some x) b h = cc
 
-word_room : (space : Space) → word_fault space ≡ None → space.at < length space.taken
+pub word_room : (space : Space) → word_fault space ≡ None → space.at < length space.taken
 word_room space h = grind arith
 
 one_within : (size : ℕ) (space : Space) → IsWithin size space → word_fault space ≡ None → IsWithin size (with_word space)
@@ -130,7 +130,7 @@ after_within text before statement h good =
       drom = data_within text before statement.body h good.early good.placed;
     }
 
-no_fault_on : (line : ℕ) (kind : Option AsmKind) → on_line line kind ≡ None → kind ≡ None
+pub no_fault_on : (line : ℕ) (kind : Option AsmKind) → on_line line kind ≡ None → kind ≡ None
 no_fault_on line None h = refl
 no_fault_on line (Some kind) h = cc
 

@@ -36,11 +36,17 @@ same_fault : (f g : AsmFault) → f.line ≡ g.line → f.kind ≡ g.kind → f 
 unfolding built
 same_fault f g l k = ap (λ line. built line f.kind) l ∙ ap (λ (kind : AsmKind). built g.line kind) k
 
+-- a text says one list of statements
+pub says_once : ((text : List ℕ) (a b : List Token) → lex.IsTokens text a → lex.IsTokens text b → a ≡ b)
+    → ((text : List ℕ) (t : List Token) (a b : List Statement) → IsSource text t a → IsSource text t b → a ≡ b)
+    → (text : List ℕ) (ss ts : List Statement) → Says text ss → Says text ts → ss ≡ ts
+says_once one_list one_source text ss ts a b =
+    let same = one_list text b.cut a.cut b.tokens a.tokens in
+    one_source text a.cut ss ts a.source (subst (λ (t : List Token). IsSource text t ts) same b.source)
+
 module _ (below : Below) (text : List ℕ) where
   one_says : (ss ts : List Statement) → Says text ss → Says text ts → ss ≡ ts
-  one_says ss ts a b =
-      let same = below.one_list text b.cut a.cut b.tokens a.tokens in
-      below.one_source text a.cut ss ts a.source (subst (λ (t : List Token). IsSource text t ts) same b.source)
+  one_says = says_once below.one_list below.one_source text
 
   same_memories : (a b : Image) → a.prog ≡ b.prog → a.drom ≡ b.drom → a ≡ b
   same_memories a b p d =

@@ -1,4 +1,5 @@
 -- The image of a text, or its first fault: there are four readings, and the first that finds a fault gives it.
+-- `specs/Placing.antt` says the image by the rules alone, with no readings; `images_are_placings` shows that it is the same.
 use Rattle.std.specs.Prelude.{◌≡◌, ℕ, ⊤, ◌⊎◌, List, replicate}
 use Rattle.std.specs.declared.option.Option.{Option}
 use Rattle.std.specs.declared.option.Option.TheVariants.{Some, None}

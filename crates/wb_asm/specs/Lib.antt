@@ -5,6 +5,7 @@ pub mod Counters
 pub mod Words
 pub mod Filling
 pub mod Assembly
+pub mod Placing
 pub mod Laid
 pub mod Statements
 pub mod Causes

@@ -1,6 +1,7 @@
 //! What holds of every source.
 ghost use Rattle.std.specs.Prelude.{◌≡◌, ℕ, List};
 ghost use Rattle.wb_asm.specs.Assembly.{IsImageOfText, IsFirstFault};
+ghost use Rattle.wb_asm.specs.Placing.{ImagesArePlacings, PlacingsAreOne, NamesAreOnce};
 ghost use Rattle.wb_asm.specs.declared.faults.AsmFault.{AsmFault};
 ghost use Rattle.wb_rom.specs.declared.images.Image.{Image};
 
@@ -19,3 +20,19 @@ pub fn each_source_has_one_answer()
     statements_are_read_in_one_way();
     files_pair_with_images();
 }
+
+/// An image is that of a text exactly where it is that of a map from names to numbers and of placements that satisfy
+/// every rule. There is nothing to run; a caller learns what it ensures.
+pub fn images_are_placings()
+    ensures { ImagesArePlacings }
+{
+    each_text_has_one_answer();
+    statements_are_read_in_one_way();
+}
+
+/// A text has at most one such map with such placements, and the map gives no name twice. There is nothing to run; a
+/// caller learns what it ensures.
+pub fn placings_are_one()
+    ensures one { PlacingsAreOne }
+    ensures names { NamesAreOnce }
+{}

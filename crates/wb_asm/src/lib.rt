@@ -3,7 +3,8 @@
 //! `assemble` gives exactly the image of a text or its first fault, in the order of four readings
 //! (`specs/Assembly.antt`): bytes and tokens (`wb_lex`), grammar (`wb_syntax`), definitions and placing, values.
 //! `specs/Layout.antt` says what one statement does in the third reading and `specs/Counters.antt` what all of them
-//! do; `specs/Words.antt` has the fourth, and `specs/Value.antt` says what an expression stands for.
+//! do; `specs/Words.antt` has the fourth, and `specs/Value.antt` says what an expression stands for. Above them,
+//! `specs/Placing.antt` says the image by its rules alone; `laws` shows that both are one.
 //!
 //! `laying` goes through the third reading, `reading` reads one line of it into a `layout` of two `spaces` and the
 //! `names`; `assembly` goes through the fourth, `filling` puts one statement's words, `words` and `values` compute
@@ -27,7 +28,7 @@ mod words;
 pub use assembly::assemble;
 pub use counters::Counters;
 pub use faults::{AsmError, AsmFault, AsmKind};
-pub use laws::each_source_has_one_answer;
+pub use laws::{each_source_has_one_answer, images_are_placings, placings_are_one};
 pub use layout::Layout;
 pub use names::Names;
 pub use spaces::Space;
