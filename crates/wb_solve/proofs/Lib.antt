@@ -1,0 +1,3 @@
+pub mod Partials
+pub mod Confluence
+pub mod Orders

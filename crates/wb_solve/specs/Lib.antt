@@ -1,0 +1,3 @@
+pub mod Descent
+pub mod Search
+pub mod Laws

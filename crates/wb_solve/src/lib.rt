@@ -1,0 +1,11 @@
+//! The search for values that satisfy a formula, or for a derivation of the empty clause.
+//!
+//! The search makes descents, one after the other. A descent makes the literals of unit clauses true, and assumes
+//! the first input without a value false, until a clause is falsified or all inputs have values. The clause of the
+//! negated assumptions is then the next step. `laws` says what is true of every search. `specs/Descent.antt` has the
+//! descent, and `specs/Search.antt` the search.
+#![tactic(auto)]
+
+mod laws;
+
+pub use laws::{order_is_free, propagation_is_confluent};
