@@ -1,3 +1,9 @@
 pub mod Partials
 pub mod Confluence
 pub mod Orders
+pub mod Lists
+pub mod Units
+pub mod Fresh
+pub mod Few
+pub mod Outcomes
+pub mod Stable

@@ -8,4 +8,6 @@
 
 mod laws;
 
-pub use laws::{order_is_free, propagation_is_confluent};
+pub use laws::{
+    order_is_free, outcomes_are_one, propagation_is_confluent, stable_values_satisfy, steps_are_few,
+};
