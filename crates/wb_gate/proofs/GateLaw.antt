@@ -1,6 +1,7 @@
 -- The clauses of gates say the gates' values.
 use Rattle.std.proofs.Common.{◌≡◌, ℕ, zero, suc, ◌+◌, Bool, true, false, not, ◌&&◌, if◌then◌else◌, List, [], ◌∷◌, ◌++◌, Some, refl, sym, ◌∙◌, ap, arith}
 use Rattle.std.specs.List.{slice_get, list_all}
+use Rattle.std.proofs.lemmas.List.Folds.{list_all-append}
 use Rattle.wb_gate.specs.declared.gates.Lit.{Lit}
 use Rattle.wb_gate.specs.declared.gates.Gate.{Gate}
 use Rattle.wb_gate.specs.declared.gates.Gate.TheVariants.{And, Xor, Mux, Maj}
@@ -72,10 +73,6 @@ and_parts false b h = cc
 and_from : (a b : Bool) → a ≡ true → b ≡ true → (a && b) ≡ true
 and_from a b h k = rw (h, k) refl
 
-pub all-append : (v : Assignment) (xs ys : List (List Lit)) → list_all (satisfies_clause v) (xs ++ ys) ≡ (list_all (satisfies_clause v) xs && list_all (satisfies_clause v) ys)
-all-append v [] ys = refl
-all-append v (x ∷ xs) ys = grind (arith, all-append v xs ys)
-
 -- gates whose variables begin with this one have their values
 record ObeysFrom (v : Assignment) (next : ℕ) (gates : List Gate) : Type 0 where
   at : (k : ℕ) (gate : Gate) → slice_get gates k ≡ Some gate → v (next + k) ≡ gate_value v gate
@@ -83,7 +80,7 @@ record ObeysFrom (v : Assignment) (next : ℕ) (gates : List Gate) : Type 0 wher
 obeys_from : (v : Assignment) (next : ℕ) (gates : List Gate) → SatisfiesAll v (clauses_from next gates) → ObeysFrom v next gates
 obeys_from v next [] h = record { at = λ k gate e. cc }
 obeys_from v next (gate ∷ gates) h =
-    let parts = and_parts _ _ (sym (all-append v (gate_clauses (variable next) gate) (clauses_from (next + 1) gates)) ∙ h) in
+    let parts = and_parts _ _ (sym (list_all-append (satisfies_clause v) (gate_clauses (variable next) gate) (clauses_from (next + 1) gates)) ∙ h) in
     record { at = by (gate_true v (variable next) gate parts.0) (obeys_from v (next + 1) gates parts.1) }
   where
     by : v next ≡ gate_value v gate → ObeysFrom v (next + 1) gates → (k : ℕ) (g : Gate) → slice_get (gate ∷ gates) k ≡ Some g → v (next + k) ≡ gate_value v g
@@ -101,7 +98,7 @@ satisfies_from v next (gate ∷ gates) h =
     let here : next ≡ next + 0 = omega arith in
     let first : lit_value v (variable next) ≡ gate_value v gate = ap v here ∙ h.at 0 gate refl in
     let rest : ObeysFrom v (next + 1) gates = record { at = λ k g e. ap v (shift k) ∙ h.at (suc k) g e } in
-    all-append v (gate_clauses (variable next) gate) (clauses_from (next + 1) gates)
+    list_all-append (satisfies_clause v) (gate_clauses (variable next) gate) (clauses_from (next + 1) gates)
     ∙ and_from _ _ (gate_satisfied v (variable next) gate first) (satisfies_from v (next + 1) gates rest)
   where
     shift : (k : ℕ) → (next + 1) + k ≡ next + suc k

@@ -1,3 +1,4 @@
 pub mod GateLaw
 pub mod Counts
 pub mod Decided
+pub mod Names

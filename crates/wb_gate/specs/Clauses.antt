@@ -1,5 +1,5 @@
 -- The clauses of a circuit: those of its gates, in order, and then that of its goal.
-use Rattle.std.specs.Prelude.{◌≡◌, ℕ, ◌+◌, ◌≤◌, Bool, true, List, [], ◌∷◌, ◌++◌, length, take, Option, Some, None}
+use Rattle.std.specs.Prelude.{◌≡◌, ℕ, ◌+◌, ◌≤◌, nat_lt, Bool, true, List, [], ◌∷◌, ◌++◌, length, take, Option, Some, None}
 use Rattle.std.specs.List.{list_all, list_any, slice_get}
 use Rattle.arrayvec.specs.ArrayVec.{ArrayVec}
 use Rattle.wb_gate.specs.declared.gates.Lit.{Lit}
@@ -65,3 +65,12 @@ clauses_before c count = length (clauses_from c.inputs (take count c.gates))
 abbrev pub IsClauseAt : List (List Lit) → ℕ → Option (ArrayVec Lit) → Type 0
 IsClauseAt clauses number None = length clauses ≤ number
 IsClauseAt clauses number (Some clause) = slice_get clauses number ≡ Some clause.items
+
+-- the clause names only variables below n
+abbrev pub names_only : ℕ → List Lit → Bool
+names_only n clause = list_all (λ l. nat_lt l.var n) clause
+
+-- a clause of a formula names only its variables
+abbrev pub NamesOnly : ℕ → Option (ArrayVec Lit) → Type 0
+NamesOnly n None = Unit {0}
+NamesOnly n (Some clause) = names_only n clause.items ≡ true

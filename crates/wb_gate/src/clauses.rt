@@ -6,8 +6,8 @@ ghost use Rattle.wb_gate.specs.Clauses.{gate_clauses, goal_clauses, IsClauseAt};
 use crate::gates::{Gate, Goal, Lit};
 use arrayvec::ArrayVec;
 
-/// A clause: some literal of it has to be true.
-pub type Clause = ArrayVec<Lit, 4>;
+/// A clause of a formula: some literal of it has to be true. The longest have three.
+pub type GateClause = ArrayVec<Lit, 4>;
 
 /// The literal that is true where this one is false.
 fn minus(lit: Lit) -> Lit
@@ -19,7 +19,7 @@ fn minus(lit: Lit) -> Lit
     }
 }
 
-fn one(x: Lit) -> Clause
+fn one(x: Lit) -> GateClause
     ensures { result.items ≡ x ∷ [] }
 {
     let mut clause = ArrayVec::new();
@@ -27,7 +27,7 @@ fn one(x: Lit) -> Clause
     clause
 }
 
-fn two(x: Lit, y: Lit) -> Clause
+fn two(x: Lit, y: Lit) -> GateClause
     ensures { result.items ≡ x ∷ y ∷ [] }
 {
     let mut clause = ArrayVec::new();
@@ -36,7 +36,7 @@ fn two(x: Lit, y: Lit) -> Clause
     clause
 }
 
-fn three(x: Lit, y: Lit, z: Lit) -> Clause
+fn three(x: Lit, y: Lit, z: Lit) -> GateClause
     ensures { result.items ≡ x ∷ y ∷ z ∷ [] }
 {
     let mut clause = ArrayVec::new();
@@ -60,7 +60,7 @@ pub fn clause_count(gate: Gate) -> u64
 }
 
 /// A clause of a gate with this variable.
-pub fn gate_clause(g: Lit, gate: Gate, number: u64) -> Option<Clause>
+pub fn gate_clause(g: Lit, gate: Gate, number: u64) -> Option<GateClause>
     ensures { IsClauseAt (gate_clauses g gate) number result }
 {
     match gate {
@@ -71,7 +71,7 @@ pub fn gate_clause(g: Lit, gate: Gate, number: u64) -> Option<Clause>
     }
 }
 
-fn and_clause(g: Lit, x: Lit, y: Lit, number: u64) -> Option<Clause>
+fn and_clause(g: Lit, x: Lit, y: Lit, number: u64) -> Option<GateClause>
     ensures { IsClauseAt (gate_clauses g (Gate.And x y)) number result }
 {
     match number {
@@ -82,7 +82,7 @@ fn and_clause(g: Lit, x: Lit, y: Lit, number: u64) -> Option<Clause>
     }
 }
 
-fn xor_clause(g: Lit, x: Lit, y: Lit, number: u64) -> Option<Clause>
+fn xor_clause(g: Lit, x: Lit, y: Lit, number: u64) -> Option<GateClause>
     ensures { IsClauseAt (gate_clauses g (Gate.Xor x y)) number result }
 {
     match number {
@@ -94,7 +94,7 @@ fn xor_clause(g: Lit, x: Lit, y: Lit, number: u64) -> Option<Clause>
     }
 }
 
-fn mux_clause(g: Lit, c: Lit, x: Lit, y: Lit, number: u64) -> Option<Clause>
+fn mux_clause(g: Lit, c: Lit, x: Lit, y: Lit, number: u64) -> Option<GateClause>
     ensures { IsClauseAt (gate_clauses g (Gate.Mux c x y)) number result }
 {
     match number {
@@ -106,7 +106,7 @@ fn mux_clause(g: Lit, c: Lit, x: Lit, y: Lit, number: u64) -> Option<Clause>
     }
 }
 
-fn maj_clause(g: Lit, x: Lit, y: Lit, z: Lit, number: u64) -> Option<Clause>
+fn maj_clause(g: Lit, x: Lit, y: Lit, z: Lit, number: u64) -> Option<GateClause>
     ensures { IsClauseAt (gate_clauses g (Gate.Maj x y z)) number result }
 {
     match number {
@@ -121,12 +121,23 @@ fn maj_clause(g: Lit, x: Lit, y: Lit, z: Lit, number: u64) -> Option<Clause>
 }
 
 /// The clause of a goal that has this number.
-pub fn goal_clause(goal: Goal, number: u64) -> Option<Clause>
+pub fn goal_clause(goal: Goal, number: u64) -> Option<GateClause>
     ensures { IsClauseAt (goal_clauses goal) number result }
 {
     match (goal, number) {
         (Goal::Lit(lit), 0) => Some(one(lit)),
         (Goal::Never, 0) => Some(ArrayVec::new()),
         _ => None,
+    }
+}
+
+/// How many clauses a goal has.
+pub fn goal_count(goal: Goal) -> u64
+    ensures value { result ≡ length (goal_clauses goal) }
+    ensures few { result ≤ 1 }
+{
+    match goal {
+        Goal::Always => 0,
+        _ => 1,
     }
 }

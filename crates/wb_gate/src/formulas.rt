@@ -1,5 +1,5 @@
 //! Formulas.
-use crate::clauses::{Clause, clause_count, gate_clause, goal_clause};
+use crate::clauses::{GateClause, clause_count, gate_clause, goal_clause, goal_count};
 use crate::gates::{Gate, Goal, Lit};
 use crate::rows::Row;
 use std::alloc::{AllocFailed, Global};
@@ -49,7 +49,7 @@ impl Model for Formula {
 impl Formula {
     ghost use Rattle.std.specs.Prelude.{◌≡◌, ◌↔◌, ◌≤◌, ◌<◌, ◌+◌, ◌*◌, ◌^◌, [], IfOk, IfErr, OnOk, OnErr, Err, Some, length, slice_get};
     ghost use Rattle.wb_gate.specs.Circuit.{IsCircuit, NamesBelow, GoalBelow, variables, variable, gate_value};
-    ghost use Rattle.wb_gate.specs.Clauses.{gate_clauses, clauses_of, clauses_before, IsClauseAt};
+    ghost use Rattle.wb_gate.specs.Clauses.{gate_clauses, clauses_of, clauses_before, IsClauseAt, NamesOnly};
     ghost use Rattle.wb_gate.specs.Growth.{with_gate, Extends, IsLit};
 
     /// A formula without gates, whose goal is never met. It takes no memory.
@@ -115,6 +115,13 @@ impl Formula {
         ensures few { result ≤ 8192 }
     {
         self.inputs
+    }
+
+    /// How many variables there are: the inputs, then the gates.
+    pub fn variables(&self) -> u32
+        ensures { result ≡ variables self.now }
+    {
+        self.inputs + self.rows.len() as u32
     }
 
     /// How many gates there are.
@@ -191,10 +198,18 @@ impl Formula {
         low
     }
 
+    /// How many clauses there are.
+    pub fn clauses(&self) -> u64
+        ensures { result ≡ length (clauses_of self.now) }
+    {
+        self.clause_end() + goal_count(self.goal())
+    }
+
     /// A clause, counted from 0: first those of the gates in order, then that of the goal. The gate is found by
     /// halves, and no memory is taken.
-    pub fn clause_at(&self, number: u64) -> Option<Clause>
-        ensures { IsClauseAt (clauses_of self.now) number result }
+    pub fn clause_at(&self, number: u64) -> Option<GateClause>
+        ensures clause { IsClauseAt (clauses_of self.now) number result }
+        ensures below { NamesOnly (variables self.now) result }
     {
         let place = self.gate_of_clause(number);
         let rest = number - self.clauses_before(place);
@@ -220,6 +235,9 @@ impl Formula {
     fn next_variable(&self) -> Lit
         ensures { result ≡ variable (variables self.now) }
     {
-        self.variable(self.rows.len())
+        Lit {
+            var: self.variables(),
+            neg: false,
+        }
     }
 }

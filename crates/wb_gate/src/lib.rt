@@ -14,7 +14,7 @@ mod rows;
 #[cfg(test)]
 mod tests;
 
-pub use clauses::Clause;
+pub use clauses::GateClause;
 pub use formulas::{Formula, GateFault};
 pub use gates::{Gate, Goal, Lit};
 pub use laws::{clauses_say_the_gates, inputs_decide};

@@ -1,5 +1,5 @@
 //! The clauses of every gate, written out by hand and held against truth tables.
-use crate::{Clause, Formula, Gate, GateFault, Goal, Lit};
+use crate::{GateClause, Formula, Gate, GateFault, Goal, Lit};
 use std::process::Abort;
 use std::test::Fail;
 
@@ -15,7 +15,7 @@ fn number(lit: &Lit) -> i64 {
     if lit.neg { -value } else { value }
 }
 
-fn expect_clause(rt: &impl Abort, clause: &Clause, want: &[i64]) {
+fn expect_clause(rt: &impl Abort, clause: &GateClause, want: &[i64]) {
     assert_eq!(rt; clause.len(), want.len());
     for (lit, want) in clause.iter().zip(want) {
         assert_eq!(rt; number(lit), *want);
@@ -23,7 +23,7 @@ fn expect_clause(rt: &impl Abort, clause: &Clause, want: &[i64]) {
 }
 
 /// Whether the values, one for each variable, make a literal of the clause true.
-fn holds(clause: &Clause, values: &[bool]) -> bool {
+fn holds(clause: &GateClause, values: &[bool]) -> bool {
     for lit in clause.iter() {
         if values.get(lit.var as usize) == Some(&!lit.neg) {
             return true;
@@ -133,6 +133,7 @@ fn clauses_are_numbered_through(rt: HostRuntime) -> Result<(), Fail> {
         let clause = formula.clause_at(place).ok_or("a clause")?;
         expect_clause(&rt, &clause, want);
     }
+    assert_eq!(rt; formula.clauses(), 14);
     assert!(rt; formula.clause_at(14).is_none());
     assert!(rt; formula.clause_at(u64::MAX).is_none());
     Ok(())

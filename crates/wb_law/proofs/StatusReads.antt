@@ -15,11 +15,12 @@ use Rattle.wb_port.specs.declared.runs.Run.TheVariants.{Answered}
 use Rattle.wb_port.specs.Port.{rqm, access_reply}
 use Rattle.wb_port.specs.Monitor.{stepped}
 use Rattle.wb_port.specs.Schedule.{powered, applied}
-use Rattle.wb_port.specs.Talk.{kinds, transfers_of}
+use Rattle.wb_port.specs.Talk.{kinds, transfers_of, dialogue}
 use Rattle.wb_port.specs.Run.{Moment, Turn, Gives, Steps, Ends, give, is_waiting, turn, goes_on, turns}
 use Rattle.wb_law.specs.Course.{stop_of}
 use Rattle.wb_port.specs.Points.{point_of, point_at}
-use Rattle.wb_law.specs.Reached.{StatusReadsPassNoPoint}
+use Rattle.wb_port.specs.FitLaws.{StatusReadsAlwaysFit, TransfersAreLeft}
+use Rattle.wb_law.specs.Reached.{StatusReadsPassNoPoint, FittingDialoguesPassReachedPoints}
 use Rattle.wb_law.proofs.Replies.{kinds_append}
 use Rattle.wb_law.proofs.Turns.{moment, gives, waits, stays}
 use Rattle.wb_law.proofs.Moments.{silent_as, held_as}
@@ -120,3 +121,13 @@ status_reads_pass_no_point image s k start accesses p = (
   λ h. without image s k accesses p h.0 [] [] (powered start) [] [] refl h.1,
   λ h. with_them image s k accesses p h.0 [] [] (powered start) [] [] refl h.1,
 )
+
+pub fitting_dialogues_pass_reached_points : StatusReadsAlwaysFit → TransfersAreLeft → FittingDialoguesPassReachedPoints
+fitting_dialogues_pass_reached_points fit only image s n k shape power d p f h =
+    let l = only d.accesses in
+    record {
+      dialogue = dialogue d.start (transfers_of d.accesses);
+      fits = (fit n shape power d.start d.accesses).0 f;
+      transfers = l.left;
+      passes = (status_reads_pass_no_point image s k d.start d.accesses p).0 h;
+    }

@@ -7,8 +7,9 @@ use Rattle.wb_port.specs.declared.accesses.Access.{Access}
 use Rattle.wb_port.specs.declared.accesses.Letter.{Letter}
 use Rattle.wb_port.specs.declared.accesses.Power.{Power}
 use Rattle.wb_port.specs.declared.points.Point.{Point}
+use Rattle.wb_port.specs.Dialogue.{Fits}
 use Rattle.wb_port.specs.Points.{Passes, image_of, IsReachedOn, IsReached, ReachedAtMostOn, ReachedAtMost}
-use Rattle.wb_port.specs.Talk.{dialogue, transfers_of}
+use Rattle.wb_port.specs.Talk.{Talk, dialogue, transfers_of}
 
 -- Leaving status reads out of a dialogue changes no point of its held run.
 abbrev pub StatusReadsPassNoPoint : Type 0
@@ -16,6 +17,12 @@ StatusReadsPassNoPoint =
     (image : Image) (s : Side) (k : ℕ) (start : List ℕ) (accesses : List Access) (p : Point)
     → Passes image s k (dialogue start accesses) p
     ↔ Passes image s k (dialogue start (transfers_of accesses)) p
+
+-- A fitting dialogue passes reached points alone, also where it has status reads.
+abbrev pub FittingDialoguesPassReachedPoints : Type 0
+FittingDialoguesPassReachedPoints =
+    (image : Image) (s : Side) (n k : ℕ) (shape : List Letter) (power : Power) (d : Talk) (p : Point)
+    → Fits n shape power d → Passes image s k d p → IsReachedOn image s n k shape power p
 
 -- A point is reached exactly where it is reached on its own side.
 abbrev pub PointsAreReachedOnTheirSide : Type 0

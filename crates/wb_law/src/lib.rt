@@ -51,9 +51,9 @@ pub use points::{
 };
 pub use ranges::striding_chips_stay_in_range;
 pub use reached::{
-    bounds_hold_of_each_side, bounds_of_sides_add_up, greater_bounds_hold,
-    greater_bounds_hold_of_a_side, lists_bound_points_of_a_side, lists_bound_reached_points,
-    points_are_reached_on_their_side, status_reads_pass_no_point,
+    bounds_hold_of_each_side, bounds_of_sides_add_up, fitting_dialogues_pass_reached_points,
+    greater_bounds_hold, greater_bounds_hold_of_a_side, lists_bound_points_of_a_side,
+    lists_bound_reached_points, points_are_reached_on_their_side, status_reads_pass_no_point,
 };
 pub use requests::{
     first_requests_are_fresh, fresh_requests_are_first, given_chips_are_one,

@@ -1,10 +1,20 @@
 //! How many points are reached: bounds, and what they are counted by.
-ghost use Rattle.wb_law.specs.Reached.{StatusReadsPassNoPoint, PointsAreReachedOnTheirSide, ListsBoundReachedPoints, ListsBoundPointsOfASide, GreaterBoundsHold, GreaterBoundsHoldOfASide, BoundsHoldOfEachSide, BoundsOfSidesAddUp};
+ghost use Rattle.wb_law.specs.Reached.{StatusReadsPassNoPoint, FittingDialoguesPassReachedPoints, PointsAreReachedOnTheirSide, ListsBoundReachedPoints, ListsBoundPointsOfASide, GreaterBoundsHold, GreaterBoundsHoldOfASide, BoundsHoldOfEachSide, BoundsOfSidesAddUp};
+
+use wb_port::{status_reads_always_fit, transfers_are_left};
 
 /// Leaving status reads out changes no point of a held run.
 pub fn status_reads_pass_no_point()
     ensures { StatusReadsPassNoPoint }
 {}
+
+/// A fitting dialogue passes reached points alone, also where it has status reads.
+pub fn fitting_dialogues_pass_reached_points()
+    ensures { FittingDialoguesPassReachedPoints }
+{
+    status_reads_always_fit();
+    transfers_are_left();
+}
 
 /// A point is reached exactly where it is reached on its own side.
 pub fn points_are_reached_on_their_side()

@@ -9,7 +9,7 @@ use std::test::Fail;
 use steps::ROWS;
 use wb_alu::Flags;
 use wb_rom::Image;
-use wb_word::{OutOfMemory, Rom};
+use wb_word::OutOfMemory;
 
 /// What one instruction changes, with the value after it.
 enum Change {
@@ -125,10 +125,9 @@ fn compare(rt: &impl Abort, text: &str, before: &Machine, after: &Machine, want:
 
 /// Zeros, but for the data word that RP points to.
 fn image_of_rows(alloc: Global) -> Result<Image, OutOfMemory> {
-    let prog = Rom::zero(alloc)?;
-    let mut drom = Rom::zero(alloc)?;
-    drom.set(0x155, 0xD0D1);
-    Ok(Image { prog, drom })
+    let mut image = Image::zero(alloc)?;
+    image.drom.set(0x155, 0xD0D1);
+    Ok(image)
 }
 
 fn execute(rt: &impl Abort, machine: &mut Machine, image: &mut Image, word: u32) {

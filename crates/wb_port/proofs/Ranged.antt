@@ -14,7 +14,7 @@ use Rattle.wb_port.specs.Monitor.{stepped}
 use Rattle.wb_port.specs.Schedule.{powered, applied, after}
 use Rattle.wb_port.specs.Talk.{IsByteAccess}
 use Rattle.wb_port.specs.Run.{Moment, Turn, turn, turns, goes_on, beginning}
-use Rattle.wb_port.specs.Ranges.{AccessesKeepRanges, IsByteEvent, SchedulesKeepRanges, RunsKeepRanges}
+use Rattle.wb_port.specs.Ranges.{AccessesKeepRanges, IsByteEvent, SchedulesKeepRanges, MomentsAreInRange, RunsKeepRanges}
 use Rattle.wb_port.proofs.Ends.{View, gives, steps, ends, view}
 
 transferred_in : (single second : Bool) (sr : ℕ) → sr < 65536 → transferred single second sr < 65536
@@ -64,7 +64,7 @@ access_in (access.Write b) m byte h =
     (replaced_in (drc m) (drs m) b m.regs.dr byte h.regs_in.dr_in)
     (transferred_in (drc m) (drs m) m.regs.sr h.regs_in.sr_in) h
 
-module _ (kept : RangesAreKept) (starts : StartsAreInRange) where
+module _ (kept : RangesAreKept) where
   step_in : (image : Image) (c : Chip) → IsState c.machine → IsState (stepped image c).machine
   unfolding stepped
   step_in image c h = kept image c.machine h
@@ -75,7 +75,11 @@ module _ (kept : RangesAreKept) (starts : StartsAreInRange) where
   after_in image (event.Host a ∷ s) c bytes h = after_in image s (applied image (event.Host a) c) bytes.1 (access_in a c.machine bytes.0 h)
 
   pub schedules_in : SchedulesKeepRanges
-  schedules_in image start s fit bytes = after_in image s (powered start) (recursion_from_All IsByteEvent s bytes) (starts start fit)
+  schedules_in image c s bytes h = after_in image s c (recursion_from_All IsByteEvent s bytes) h
+
+module _ (kept : RangesAreKept) (starts : StartsAreInRange) where
+  pub moments_in : MomentsAreInRange
+  moments_in image start s fit bytes = schedules_in kept image (powered start) s bytes (starts start fit)
 
   -- the chip is in its ranges, and what is left writes bytes
   record IsRanged (m : Moment) : Type 0 where
@@ -86,7 +90,7 @@ module _ (kept : RangesAreKept) (starts : StartsAreInRange) where
   turn_in image k held m _ (gives a rest left on) h =
       let bytes : AllByRecursion IsByteAccess (a ∷ rest) = subst (AllByRecursion IsByteAccess) left h.left in
       record { chip = access_in a m.chip.machine bytes.0 h.chip; left = bytes.1 }
-  turn_in image k held m _ (steps other fine busy) h = record { chip = step_in image m.chip h.chip; left = h.left }
+  turn_in image k held m _ (steps other fine busy) h = record { chip = step_in kept image m.chip h.chip; left = h.left }
   turn_in image k held m _ (ends e) h = h
 
   turns_in : (image : Image) (k : ℕ) (held : Bool) (j : ℕ) (m : Moment) → IsRanged m → IsRanged (turns image k held j m)

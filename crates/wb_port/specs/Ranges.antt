@@ -5,6 +5,7 @@ use Rattle.wb_machine.specs.State.{State, IsState, IsStart}
 use Rattle.wb_port.specs.declared.accesses.Access.{Access}
 use Rattle.wb_port.specs.declared.accesses.Event.{Event}
 use Rattle.wb_port.specs.declared.accesses.Event.TheVariants as event
+use Rattle.wb_port.specs.declared.chips.Chip.{Chip}
 use Rattle.wb_port.specs.Port.{accessed}
 use Rattle.wb_port.specs.Schedule.{powered, after}
 use Rattle.wb_port.specs.Talk.{Talk, IsByteAccess, IsTalk}
@@ -19,9 +20,15 @@ abbrev pub IsByteEvent : Event → Type 0
 IsByteEvent event.Step = Unit {0}
 IsByteEvent (event.Host a) = IsByteAccess a
 
--- At every moment of every schedule, the parts of the chip are in their ranges.
+-- Every schedule keeps the ranges of all parts.
 abbrev pub SchedulesKeepRanges : Type 0
 SchedulesKeepRanges =
+    (image : Image) (c : Chip) (s : List Event)
+    → All IsByteEvent s → IsState c.machine → IsState (after image s c).machine
+
+-- At every moment of every schedule, the parts of the chip are in their ranges.
+abbrev pub MomentsAreInRange : Type 0
+MomentsAreInRange =
     (image : Image) (start : List ℕ) (s : List Event)
     → IsStart start → All IsByteEvent s → IsState (after image s (powered start)).machine
 

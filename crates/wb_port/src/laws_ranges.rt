@@ -1,5 +1,5 @@
 //! The parts of a chip stay in their ranges, whatever host and chip do.
-ghost use Rattle.wb_port.specs.Ranges.{AccessesKeepRanges, SchedulesKeepRanges, RunsKeepRanges};
+ghost use Rattle.wb_port.specs.Ranges.{AccessesKeepRanges, SchedulesKeepRanges, MomentsAreInRange, RunsKeepRanges};
 
 use wb_machine::{ranges_are_kept, starts_are_in_range};
 
@@ -8,9 +8,16 @@ pub fn accesses_keep_ranges()
     ensures { AccessesKeepRanges }
 {}
 
-/// The parts of a chip are in their ranges at every moment of every schedule.
+/// Every schedule keeps the ranges of all parts.
 pub fn schedules_keep_ranges()
     ensures { SchedulesKeepRanges }
+{
+    ranges_are_kept();
+}
+
+/// The parts of a chip are in their ranges at every moment of every schedule.
+pub fn moments_are_in_range()
+    ensures { MomentsAreInRange }
 {
     ranges_are_kept();
     starts_are_in_range();

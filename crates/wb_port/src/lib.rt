@@ -2,10 +2,11 @@
 //! the chip, schedules, dialogues, the runs of an eager host, and the points that these pass.
 //!
 //! Every call is exactly its definition in `specs/`; `specs/Alike.antt` has the headline, `AnswersAlike`, to which
-//! the laws of `wb_law` lead. The laws here are on single instructions and accesses (`laws_single`), and on wait
-//! loops and moments of schedules and runs (`laws_moments`): functions that do nothing and whose clauses are the
-//! theorems. `port` has the host's accesses, `loops` the words and wait loops, `chips` the observed chip, `talks` and
-//! `shapes` dialogues and what fits, `replays` and `trails` the runs and their points.
+//! the laws of `wb_law` lead. The laws here are functions that do nothing and whose clauses are the theorems: on
+//! single instructions and accesses (`laws_single`), on wait loops and moments of schedules and runs
+//! (`laws_moments`), on the ranges of a chip's parts (`laws_ranges`), and on what fits (`laws_fits`). `port` has the
+//! host's accesses, `loops` the words and wait loops, `chips` the observed chip, `talks` and `shapes` dialogues and
+//! what fits, `replays` and `trails` the runs and their points, `points` how a point goes on.
 #![tactic(auto)]
 
 mod accesses;
@@ -37,7 +38,9 @@ pub use laws_moments::{
     polls_begin_loops, requests_are_asked, runs_come_to_an_end, trails_hold_the_points,
     worked_loops,
 };
-pub use laws_ranges::{accesses_keep_ranges, runs_keep_ranges, schedules_keep_ranges};
+pub use laws_ranges::{
+    accesses_keep_ranges, moments_are_in_range, runs_keep_ranges, schedules_keep_ranges,
+};
 pub use laws_single::{
     accesses_raise_nothing, calm_words_commute, calm_words_keep_the_port, gates_are_near,
     gates_are_tests, idle_instructions_move_alone, loops_have_one_gate, only_raising_words_request,

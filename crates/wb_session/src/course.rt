@@ -106,8 +106,9 @@ fn answer(image: &Image, machine: &mut Machine, item: Item) -> Result<Line, Stop
     }
 }
 
-/// The run of a script from power-up, whose lines find their room taken.
-fn play(mut lines: Vec<Line>, image: &Image, script: &Script) -> Session
+/// Runs a script from power-up into lines that have the room for all of them. It takes no memory, so a run that has
+/// begun comes to its end.
+pub fn play(mut lines: Vec<Line>, image: &Image, script: &Script) -> Session
     requires empty { lines.items ≡ [] }
     requires room { length script.now ≤ vec_capacity lines }
     requires few { length script.now ≤ 65536 }
@@ -142,8 +143,7 @@ fn play(mut lines: Vec<Line>, image: &Image, script: &Script) -> Session
     }
 }
 
-/// Runs a script from power-up. All memory is taken before the first instruction, so a run that has begun
-/// comes to its end.
+/// Runs a script from power-up. All memory is taken before the first instruction.
 pub fn play_script(alloc: Global, image: &Image, script: &Script) -> Result<Session, OutOfMemory>
     requires { length script.now ≤ 65536 }
     ensures transcript { IfOk result (λ session. IsTranscript image.now script.now session.transcript) }

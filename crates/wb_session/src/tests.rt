@@ -92,15 +92,21 @@ fn runs(rt: HostRuntime) -> Result<(), Fail> {
 
 #[test]
 fn leaves_the_machine(rt: HostRuntime) -> Result<(), Fail> {
-    let image = image_of(&rt, rt.alloc(), &WIDE)?;
-    // A read without a request leaves DRS alone, and a wait without a request has executed its instructions.
-    for (items, counter, sr) in [([Read], 0, 0), ([Step(1)], 1, 0x8000), ([Wait(0)], 0, 0)] {
-        let script = Script::from_items(items.to_vec(rt.alloc())?);
+    // A read without a request leaves DRS alone, and a wait that ends silent has executed its instructions.
+    let cases: [(&[u32], Item, u16, u16); 4] = [
+        (&WIDE, Read, 0, 0),
+        (&WIDE, Step(1), 1, 0x8000),
+        (&ECHO, Wait(1), 1, 0x0400),
+        (&ECHO, Wait(9), 2, 0x8400),
+    ];
+    for (words, item, counter, sr) in cases {
+        let image = image_of(&rt, rt.alloc(), words)?;
+        let script = Script::from_items([item].to_vec(rt.alloc())?);
         assert!(rt; script.len() <= 65536);
         let session = play_script(rt.alloc(), &image, &script)?;
         let regs = session.machine.regs();
-        assert_eq!(rt; regs.pc, counter);
-        assert_eq!(rt; regs.sr, sr);
+        assert_eq!(rt; regs.pc, counter, "at {item:?}");
+        assert_eq!(rt; regs.sr, sr, "at {item:?}");
     }
     Ok(())
 }

@@ -2,4 +2,4 @@ use Rattle.wb_port.proofs.Ranged.{schedules_in}
 use Rattle.wb_port.proofs.laws_ranges.schedules_keep_ranges.Goals as goal
 
 pub returns : goal.returns
-returns c = schedules_in c.ranges_are_kept.ensures c.starts_are_in_range.ensures
+returns c = schedules_in c.ranges_are_kept.ensures
