@@ -1,9 +1,8 @@
 -- Propagation ends in one way, in whatever order unit clauses are taken.
-use Rattle.std.proofs.Common.{◌≡◌, ℕ, ◌⊎◌, inl, inr, Bool, true, false, not, List, [], ◌∷◌, Option, Some, None, refl, sym, ◌∙◌, ap, subst}
-use Rattle.std.specs.List.{slice_get}
+use Rattle.std.proofs.Common.{◌≡◌, ◌⊎◌, inl, inr, Bool, true, false, not, List, Option, Some, None, refl, ◌∙◌, ap}
 use Rattle.wb_gate.specs.declared.gates.Lit.{Lit}
-use Rattle.wb_derive.specs.Partial.{Partial, assume, IsFalse, IsOpen, IsFalsified, IsUnit}
-use Rattle.wb_solve.specs.Descent.{SomeFalsified, IsUnitAt, SomeUnit, IsStable, Propagates, rests, goes_on}
+use Rattle.wb_derive.specs.Partial.{Partial, assume}
+use Rattle.wb_solve.specs.Descent.{SomeFalsified, SomeUnit, IsStable, Propagates, rests, goes_on}
 use Rattle.wb_solve.specs.Laws.{PropagationIsConfluent}
 use Rattle.wb_solve.proofs.Partials.{Below, below_self, below_trans, below_assume, assume_below, false_below, but_below, but_falsified, same_from_below}
 
@@ -21,6 +20,7 @@ unit_below clauses p q l h stable unit = by (q l.var) refl
     valued b e (inl is) = e ∙ ap (λ (a : Bool). Some a) is
     valued b e (inr is) =
         absurd (stable.no_falsified (unit.0, unit.1.0, unit.1.1, but_falsified l q unit.1.0 (but_below l p q unit.1.0 h unit.1.2.others) (e ∙ ap (λ (a : Bool). Some a) is)))
+
     by : (o : Option Bool) → q l.var ≡ o → q l.var ≡ Some (not l.neg)
     by None e = absurd (stable.no_unit l (unit.0, (unit.1.0, unit.1.1, record { there = unit.1.2.there; still_open = e; others = but_below l p q unit.1.0 h unit.1.2.others })))
     by (Some b) e = valued b e (two b l.neg)

@@ -1,12 +1,10 @@
 -- A search has few steps: no step that isn't empty contains a clause that was known, so no two name the same inputs.
-use Rattle.std.proofs.Common.{◌≡◌, ℕ, zero, suc, ◌+◌, ◌*◌, ◌^◌, ◌<◌, ◌≤◌, ◌⊎◌, inl, inr, Bool, true, false, ◌||◌, if◌then◌else◌, eqb, List, [], ◌∷◌, ◌++◌, length, map, take, Option, Some, None, refl, sym, ◌∙◌, ap, subst, arith, eq-eqb}
+use Rattle.std.proofs.Common.{◌≡◌, ℕ, zero, suc, ◌+◌, ◌^◌, ◌<◌, ◌≤◌, ◌⊎◌, inl, inr, Bool, true, false, ◌||◌, if◌then◌else◌, eqb, List, [], ◌∷◌, ◌++◌, length, map, take, Some, refl, sym, ◌∙◌, ap, subst, arith, eq-eqb}
 use Rattle.std.specs.List.{slice_get, list_any, AllByRecursion, IsDistinct}
-use Rattle.std.specs.Option.{option_map}
 use Rattle.std.proofs.Math.Nat.{pow-suc}
-use Rattle.std.proofs.lemmas.Bool.{eqb-true, false≢true}
-use Rattle.std.proofs.lemmas.Option.{slice_get-map, slice_get_within}
+use Rattle.std.proofs.lemmas.Bool.{eqb-true}
+use Rattle.std.proofs.lemmas.Option.{slice_get_within}
 use Rattle.std.proofs.lemmas.List.{length-map}
-use Rattle.std.proofs.lemmas.Map.Keys.{IsDistinct-cons}
 use Rattle.std.proofs.lemmas.Map.Steps.{length-le_from_distinct_below}
 use Rattle.wb_gate.specs.declared.gates.Lit.{Lit}
 use Rattle.wb_gate.specs.Circuit.{Circuit, variable}
@@ -50,6 +48,7 @@ code_same (suc n) one two e x h = by (names n one) (names n two) refl refl e (co
     last : (b : Bool) → names n one ≡ b → names n two ≡ b → code n one ≡ code n two → (code n one ≡ code n two → (y : ℕ) → y < n → names y one ≡ names y two) → (x < n) ⊎ (n ≤ x) → names x one ≡ names x two
     last b f g same later (inl before) = later same x before
     last b f g same later (inr here) = let at : x ≡ n = omega arith in rw at (f ∙ sym g)
+
     by : (a b : Bool) → names n one ≡ a → names n two ≡ b → (if a then 2 ^ n else 0) + code n one ≡ (if b then 2 ^ n else 0) + code n two → code n one < 2 ^ n → code n two < 2 ^ n → (code n one ≡ code n two → (y : ℕ) → y < n → names y one ≡ names y two) → (x < n) ⊎ (n ≤ x) → names x one ≡ names x two
     by true true f g e s t later which = last true f g (omega arith) later which
     by false false f g e s t later which = last false f g (omega arith) later which
@@ -113,14 +112,17 @@ apart c steps are j k one two h at_one at_two e =
   where
     first : IsFresh c.inputs (clauses_of c ++ take j steps) one
     first = step_fresh c (take j steps) one (are.descents j one at_one)
+
     second : IsFresh c.inputs (clauses_of c ++ take k steps) two
     second = step_fresh c (take k steps) two (are.descents k two at_two)
+
     within : IsWithin one two
     within =
         let same : code c.inputs (clause_of first.assumed) ≡ code c.inputs (clause_of second.assumed) = ap (code c.inputs) (sym first.is) ∙ e ∙ ap (code c.inputs) second.is in
         let P : List Lit → Type 0 = λ d. IsWithin one d in
         let Q : List Lit → Type 0 = λ d. IsWithin d (clause_of second.assumed) in
         subst P (sym second.is) (subst Q (sym first.is) (names_within c.inputs first.assumed second.assumed first.below same))
+
     by : (two ≡ []) ⊎ NoneWithin (clauses_of c ++ take k steps) two → ⊥
     by (inl empty) =
         let inside = slice_get_within steps k two at_two in
@@ -136,9 +138,10 @@ all_from P (x ∷ xs) h = (h 0 x refl, all_from P xs (λ k y e. h (suc k) y e))
 distinct : (xs : List ℕ) → ((j k x y : ℕ) → j < k → slice_get xs j ≡ Some x → slice_get xs k ≡ Some y → x ≡ y → ⊥) → IsDistinct eqb xs
 unfolding IsDistinct
 distinct [] h = tt
-distinct (x ∷ xs) h =
-    (all_from (λ y. eqb x y ≡ false) xs (λ k y e. differ x y (h 0 (suc k) x y (omega arith) refl e)),
-    distinct xs (λ j k a b less e f. h (suc j) (suc k) a b (omega arith) e f))
+distinct (x ∷ xs) h = (
+  all_from (λ y. eqb x y ≡ false) xs (λ k y e. differ x y (h 0 (suc k) x y (omega arith) refl e)),
+  distinct xs (λ j k a b less e f. h (suc j) (suc k) a b (omega arith) e f),
+)
   where
     differ : (a b : ℕ) → (a ≡ b → ⊥) → eqb a b ≡ false
     differ a b ne = by (eqb a b) refl

@@ -1,16 +1,14 @@
 -- The assumptions of a descent: their clause is new.
-use Rattle.std.proofs.Common.{◌≡◌, ℕ, zero, suc, ◌+◌, ◌<◌, ◌≤◌, ◌⊎◌, inl, inr, Bool, true, false, not, ◌&&◌, nat_le, if◌then◌else◌, eqb, List, [], ◌∷◌, ◌++◌, map, Option, Some, None, refl, sym, ◌∙◌, ap, subst, arith, eq-eqb}
+use Rattle.std.proofs.Common.{◌≡◌, ℕ, ◌+◌, ◌<◌, ◌≤◌, ◌⊎◌, inl, inr, Bool, true, false, not, ◌&&◌, nat_le, if◌then◌else◌, eqb, List, [], ◌∷◌, ◌++◌, Some, None, refl, sym, ap, subst, arith, eq-eqb}
 use Rattle.std.specs.List.{slice_get}
-use Rattle.std.proofs.lemmas.Bool.{eqb-true}
 use Rattle.std.proofs.lemmas.Bool.Decides.{nat_tests}
-use Rattle.std.proofs.lemmas.List.{map-append}
 use Rattle.wb_gate.specs.declared.gates.Lit.{Lit}
 use Rattle.wb_gate.specs.Circuit.{minus, variable}
 use Rattle.wb_derive.specs.Clause.{rises_from, rises}
 use Rattle.wb_derive.specs.Partial.{Partial, nothing, assume, IsFalse, IsOpen, IsFalsified, Occurs, AreFalseBut, IsUnit}
-use Rattle.wb_solve.specs.Descent.{SomeFalsified, SomeUnit, IsStable, AreValued, IsFirstOpen, Ended, Conflict, Values, clause_of, DescendsBy, conflicts, propagates, assumes, gives, DescendsInSomeOrder}
+use Rattle.wb_solve.specs.Descent.{IsStable, IsFirstOpen, Conflict, Values, clause_of, conflicts, propagates, assumes, gives, DescendsInSomeOrder}
 use Rattle.wb_solve.specs.Laws.{IsWithin}
-use Rattle.wb_solve.proofs.Partials.{Below, below_assume, assume_at, false_below}
+use Rattle.wb_solve.proofs.Partials.{below_assume, assume_at, false_below}
 use Rattle.wb_solve.proofs.Units.{unit_or_false}
 
 -- each of the variables is below n
@@ -97,6 +95,7 @@ first_less n p y x first still ne = by (split y x)
   where
     split : (a b : ℕ) → (a < b) ⊎ (a ≡ b) ⊎ (b < a)
     split a b = grind arith
+
     by : (y < x) ⊎ (y ≡ x) ⊎ (x < y) → y < x
     by (inl less) = less
     by (inr (inl same)) = let e : eqb x y ≡ true = eq-eqb x y (sym same) in absurd (cc)

@@ -1,9 +1,9 @@
 -- A descent ends in one way, in whatever order unit clauses are taken.
-use Rattle.std.proofs.Common.{◌≡◌, ℕ, ◌<◌, ◌≤◌, ◌⊎◌, inl, inr, Bool, List, [], ◌∷◌, ◌++◌, Option, Some, None, refl, sym, ◌∙◌, ap, subst, arith}
+use Rattle.std.proofs.Common.{◌≡◌, ℕ, ◌<◌, ◌⊎◌, inl, inr, List, [], ◌∷◌, ◌++◌, None, sym, ◌∙◌, ap, subst, arith}
 use Rattle.wb_gate.specs.declared.gates.Lit.{Lit}
 use Rattle.wb_gate.specs.Circuit.{minus, variable}
 use Rattle.wb_derive.specs.Partial.{Partial, assume}
-use Rattle.wb_solve.specs.Descent.{SomeFalsified, SomeUnit, FirstUnit, IsStable, AreValued, IsFirstOpen, Ended, Conflict, Values, clause_of, DescendsBy, conflicts, propagates, assumes, gives, Descends, DescendsInSomeOrder, Propagates, rests, goes_on}
+use Rattle.wb_solve.specs.Descent.{SomeFalsified, IsStable, AreValued, IsFirstOpen, Ended, Conflict, Values, clause_of, conflicts, propagates, assumes, gives, Descends, DescendsInSomeOrder, Propagates, rests}
 use Rattle.wb_solve.specs.Laws.{OrderIsFree}
 use Rattle.wb_solve.proofs.Confluence.{no_conflict, same_values, one_more}
 

@@ -1,5 +1,5 @@
 -- A search has one outcome.
-use Rattle.std.proofs.Common.{◌≡◌, ℕ, zero, suc, ◌+◌, ◌<◌, ◌≤◌, ◌⊎◌, inl, inr, List, [], ◌∷◌, ◌++◌, length, take, Option, Some, None, refl, sym, ◌∙◌, ap, subst, arith}
+use Rattle.std.proofs.Common.{◌≡◌, ℕ, zero, suc, ◌<◌, ◌≤◌, ◌⊎◌, inl, inr, List, [], ◌∷◌, ◌++◌, length, take, Some, refl, sym, ◌∙◌, ap, subst, arith}
 use Rattle.std.specs.List.{slice_get}
 use Rattle.std.proofs.lemmas.Option.{slice_get_within}
 use Rattle.wb_gate.specs.declared.gates.Lit.{Lit}
@@ -103,6 +103,7 @@ satisfied_refuted c limit p steps one two = by (split (length one.0) (length ste
   where
     split : (a b : ℕ) → (a < b) ⊎ (b ≤ a)
     split a b = grind arith
+
     by : (length one.0 < length steps) ⊎ (length steps ≤ length one.0) → ⊥
     by (inl h) = let next = no_further c one.0 steps (Values p) one.1 two.0 one.4 h in differ next.0 p (sym next.2)
     by (inr h) = not_past c steps one.0 two.2.0 two.0 one.1 two.2.2 one.2 (omega (arith, two.2.1))
@@ -112,6 +113,7 @@ satisfied_stopped c limit p steps one two = by (split (length one.0) (length ste
   where
     split : (a b : ℕ) → (a < b) ⊎ (b ≤ a)
     split a b = grind arith
+
     by : (length one.0 < length steps) ⊎ (length steps ≤ length one.0) → ⊥
     by (inl h) = let next = no_further c one.0 steps (Values p) one.1 two.0 one.4 h in differ next.0 p (sym next.2)
     by (inr h) =
@@ -136,6 +138,7 @@ refuted_stopped c limit steps others one two = by (split (length others) (length
   where
     split : (a b : ℕ) → (a < b) ⊎ (b ≤ a)
     split a b = grind arith
+
     by : (length others < length steps) ⊎ (length steps ≤ length others) → ⊥
     by (inl h) =
         let next = no_further c others steps (Conflict two.3.0) two.0 one.0 two.3.2 h in

@@ -1,9 +1,8 @@
 -- Assignments that have the values of others.
-use Rattle.std.proofs.Common.{◌≡◌, ℕ, ◌⊎◌, inl, inr, Bool, true, false, not, if◌then◌else◌, eqb, List, [], ◌∷◌, ◌++◌, Option, Some, None, refl, sym, ◌∙◌, ap, subst, eq-eqb}
-use Rattle.std.specs.List.{slice_get}
+use Rattle.std.proofs.Common.{◌≡◌, ℕ, ◌⊎◌, inl, inr, Bool, true, false, not, if◌then◌else◌, eqb, List, [], ◌∷◌, Option, Some, None, refl, sym, ◌∙◌, ap, subst, eq-eqb}
 use Rattle.std.proofs.lemmas.Bool.{eqb-true}
 use Rattle.wb_gate.specs.declared.gates.Lit.{Lit}
-use Rattle.wb_derive.specs.Partial.{Partial, assume, IsFalse, IsOpen, IsFalsified, Occurs, AreFalseBut, IsUnit}
+use Rattle.wb_derive.specs.Partial.{Partial, assume, IsFalse, IsOpen, IsFalsified, AreFalseBut}
 
 pub same_partial : (p q : Partial) → ((x : ℕ) → p x ≡ q x) → p ≡ q
 same_partial p q h = λ i x. h x i

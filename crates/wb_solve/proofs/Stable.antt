@@ -1,7 +1,7 @@
 -- Values at which no clause is falsified or unit satisfy the formula.
 use Rattle.std.proofs.Common.{◌≡◌, ℕ, zero, suc, ◌+◌, ◌-◌, ◌<◌, ◌≤◌, ◌⊎◌, inl, inr, Bool, true, false, not, ◌&&◌, ◌||◌, if◌then◌else◌, eqb, List, [], ◌∷◌, ◌++◌, length, Option, Some, None, refl, sym, ◌∙◌, ap, ap₂, subst, arith, eq-eqb}
-use Rattle.std.specs.List.{slice_get, list_all, list_any}
-use Rattle.std.proofs.lemmas.Bool.{eqb-true, false≢true}
+use Rattle.std.specs.List.{slice_get, list_all}
+use Rattle.std.proofs.lemmas.Bool.{eqb-true}
 use Rattle.std.proofs.lemmas.List.{append-nil}
 use Rattle.std.proofs.lemmas.List.Folds.{list_all-append}
 use Rattle.wb_gate.specs.declared.gates.Lit.{Lit}
@@ -9,7 +9,7 @@ use Rattle.wb_gate.specs.declared.gates.Gate.{Gate}
 use Rattle.wb_gate.specs.declared.gates.Gate.TheVariants.{And, Xor, Mux, Maj}
 use Rattle.wb_gate.specs.declared.gates.Goal.{Goal}
 use Rattle.wb_gate.specs.declared.gates.Goal.TheVariants as goal
-use Rattle.wb_gate.specs.Circuit.{Circuit, Assignment, variables, variable, minus, lit_value, gate_value, xor, NamesBelow, GoalBelow, IsCircuit, Obeys}
+use Rattle.wb_gate.specs.Circuit.{Circuit, Assignment, variables, variable, lit_value, gate_value, NamesBelow, GoalBelow, IsCircuit, Obeys}
 use Rattle.wb_gate.specs.Clauses.{gate_clauses, clauses_from, gates_clauses, goal_clauses, clauses_of, satisfies_clause, SatisfiesAll, Satisfies}
 use Rattle.wb_gate.specs.Laws.{ClausesSayTheGates}
 use Rattle.wb_derive.specs.Partial.{Partial, IsFalse, IsFalsified, AreFalseBut, IsUnit}
@@ -138,16 +138,20 @@ module _ (law : ClausesSayTheGates) where
       where
         w : Assignment
         w = λ x. if eqb x g then not (gate_value v gate) else v x
+
         w_at : w g ≡ not (gate_value v gate)
         w_at = rw (eq-eqb g g refl) refl
+
         w_before : (x : ℕ) → x < g → w x ≡ v x
         w_before x h = other (eqb x g) refl
           where
             other : (b : Bool) → eqb x g ≡ b → (if b then not (gate_value v gate) else v x) ≡ v x
             other true e = let same : x ≡ g = eqb-true x g e in absurd (omega arith)
             other false e = refl
+
         agrees_w : Agrees g p w
         agrees_w = λ x h. agrees x h ∙ ap (λ (b : Bool). Some b) (sym (w_before x h))
+
         by : (b : Bool) → list_all (satisfies_clause w) (gate_clauses (variable g) gate) ≡ b → ⊥
         by true e = not_self (gate_value v gate) (sym w_at ∙ obeys_one w g gate e ∙ gate_same w v g gate w_before below)
         by false e =
@@ -220,6 +224,7 @@ module _ (law : ClausesSayTheGates) (c : Circuit) (steps : List (List Lit)) (p :
           which : (o : Option Bool) → p n ≡ o → (p n ≡ None → ⊥) → (b : Bool) × (p n ≡ Some b)
           which None e none = absurd (none e)
           which (Some b) e none = (b, e)
+
       by : AreValued n p → (x < n) ⊎ (n ≤ x) → (b : Bool) × (p x ≡ Some b)
       by before (inl less) = before x less
       by before (inr here) =

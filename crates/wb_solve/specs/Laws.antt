@@ -1,11 +1,11 @@
 -- What is true of every propagation, every descent and every search.
-use Rattle.std.specs.Prelude.{◌≡◌, ℕ, ◌+◌, ◌*◌, ◌^◌, ◌<◌, ◌≤◌, Bool, List, [], ◌∷◌, ◌++◌, length, take, Some}
+use Rattle.std.specs.Prelude.{◌≡◌, ℕ, ◌^◌, ◌<◌, ◌≤◌, List, [], ◌++◌, length, Some}
 use Rattle.std.specs.List.{slice_get}
 use Rattle.wb_gate.specs.declared.gates.Lit.{Lit}
 use Rattle.wb_gate.specs.Circuit.{Circuit, Assignment, IsCircuit, variables}
 use Rattle.wb_gate.specs.Clauses.{clauses_of, Satisfies}
 use Rattle.wb_derive.specs.Partial.{Partial, Occurs}
-use Rattle.wb_solve.specs.Descent.{SomeFalsified, IsStable, AreValued, Ended, Conflict, Values, Descends, DescendsInSomeOrder, Propagates}
+use Rattle.wb_solve.specs.Descent.{SomeFalsified, IsStable, AreValued, Ended, Conflict, Descends, DescendsInSomeOrder, Propagates}
 use Rattle.wb_solve.specs.Search.{EndsNext, AreSteps, Outcome, IsOutcome}
 
 -- From given values, in whatever order unit clauses are taken, propagation meets a falsified clause in every order

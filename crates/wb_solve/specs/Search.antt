@@ -6,7 +6,6 @@ use Rattle.wb_gate.specs.declared.gates.Lit.{Lit}
 use Rattle.wb_gate.specs.Circuit.{Circuit}
 use Rattle.wb_gate.specs.Clauses.{clauses_of}
 use Rattle.wb_derive.specs.Partial.{Partial}
-use Rattle.wb_derive.specs.Lawful.{known_before}
 use Rattle.wb_solve.specs.Descent.{Ended, Conflict, Values, IsDescent}
 
 -- the next descent of a search that has these steps ends so
