@@ -15,7 +15,8 @@ use Rattle.wb_solve.specs.Search.{EndsNext, AreSteps}
 use Rattle.wb_solve.specs.Laws.{IsWithin, StepsAreFew}
 use Rattle.wb_solve.proofs.Lists.{get_after, get_taken}
 use Rattle.wb_solve.proofs.Orders.{some_order}
-use Rattle.wb_solve.proofs.Fresh.{AllBelow, NoneWithin, IsFresh, pending_first, descent_fresh}
+use Rattle.wb_solve.specs.Course.{AllBelow, NoneWithin}
+use Rattle.wb_solve.proofs.Fresh.{IsFresh, pending_first, descent_fresh}
 
 -- the clause names this variable
 names : ℕ → List Lit → Bool

@@ -8,25 +8,9 @@ use Rattle.wb_derive.specs.Clause.{rises_from, rises}
 use Rattle.wb_derive.specs.Partial.{Partial, nothing, assume, IsFalse, IsOpen, IsFalsified, Occurs, AreFalseBut, IsUnit}
 use Rattle.wb_solve.specs.Descent.{IsStable, IsFirstOpen, Conflict, Values, clause_of, conflicts, propagates, assumes, gives, DescendsInSomeOrder}
 use Rattle.wb_solve.specs.Laws.{IsWithin}
+use Rattle.wb_solve.specs.Course.{AllBelow, NoneWithin, IsPending}
 use Rattle.wb_solve.proofs.Partials.{below_assume, assume_at, false_below}
 use Rattle.wb_solve.proofs.Units.{unit_or_false}
-
--- each of the variables is below n
-abbrev pub AllBelow : ℕ → List ℕ → Type 0
-AllBelow n [] = Unit {0}
-AllBelow n (x ∷ xs) = (x < n) × AllBelow n xs
-
--- no clause lies within this one
-abbrev pub NoneWithin : List (List Lit) → List Lit → Type 0
-NoneWithin clauses clause = (number : ℕ) (known : List Lit) → slice_get clauses number ≡ Some known → IsWithin known clause → ⊥
-
--- what holds of the assumptions within a descent
-pub record IsPending (inputs : ℕ) (clauses : List (List Lit)) (p : Partial) (assumed : List ℕ) : Type 0 where
-  pub falsified : IsFalsified p (clause_of assumed)
-  pub below : AllBelow inputs assumed
-  pub under : (x : ℕ) → p x ≡ None → AllBelow x assumed
-  pub rises : rises (clause_of assumed) ≡ true
-  pub fresh : (assumed ≡ []) ⊎ NoneWithin clauses (clause_of assumed)
 
 below_more : (n : ℕ) (xs : List ℕ) (x : ℕ) → AllBelow n xs → x < n → AllBelow n (xs ++ (x ∷ []))
 below_more n [] x all h = (h, tt)
@@ -65,7 +49,7 @@ none_within clauses p xs x stable still all number known at within =
     by (inl unit) = stable.no_unit (variable x) (number, (known, at, unit))
     by (inr f) = stable.no_falsified (number, known, at, f)
 
-open_before : (p : Partial) (l : Lit) (x : ℕ) → assume p l x ≡ None → (eqb x l.var ≡ false) × (p x ≡ None)
+pub open_before : (p : Partial) (l : Lit) (x : ℕ) → assume p l x ≡ None → (eqb x l.var ≡ false) × (p x ≡ None)
 open_before p l x e = by (eqb x l.var) refl e
   where
     by : (b : Bool) → eqb x l.var ≡ b → (if b then Some (not l.neg) else p x) ≡ None → (eqb x l.var ≡ false) × (p x ≡ None)

@@ -7,3 +7,5 @@ pub mod Fresh
 pub mod Few
 pub mod Outcomes
 pub mod Stable
+pub mod Standings
+pub mod Turns

@@ -45,3 +45,8 @@ all_pass test xs h = by (list_all test xs) refl
     by : (b : Bool) → list_all test xs ≡ b → list_all test xs ≡ true
     by true e = e
     by false e = let found = some_fails test xs e in absurd (h found.0 found.1 found.2)
+
+pub get_left : {X : Type 0} (xs ys : List X) (k : ℕ) (x : X) → slice_get xs k ≡ Some x → slice_get (xs ++ ys) k ≡ Some x
+get_left [] ys k x e = absurd (cc)
+get_left (y ∷ xs) ys zero x e = e
+get_left (y ∷ xs) ys (suc k) x e = get_left xs ys k x e

@@ -22,7 +22,7 @@ unit_or_false l p clause still all = by (there_or_false l p clause all)
     by (inr f) = inr f
 
 -- an open literal that stands in a clause whose others are false is the one
-open_is : (k l : Lit) (p : Partial) (xs : List Lit) → Occurs l xs → IsOpen p l → AreFalseBut k p xs → l ≡ k
+pub open_is : (k l : Lit) (p : Partial) (xs : List Lit) → Occurs l xs → IsOpen p l → AreFalseBut k p xs → l ≡ k
 open_is k l p [] o still all = absurd o
 open_is k l p (x ∷ xs) (inl here) still all = by all.0
   where

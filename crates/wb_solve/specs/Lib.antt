@@ -1,3 +1,4 @@
 pub mod Descent
 pub mod Search
 pub mod Laws
+pub mod Course

@@ -7,6 +7,8 @@
 #![tactic(auto)]
 
 mod laws;
+mod scans;
+mod standing;
 
 pub use laws::{
     order_is_free, outcomes_are_one, propagation_is_confluent, stable_values_satisfy, steps_are_few,
