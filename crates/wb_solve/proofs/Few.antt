@@ -93,7 +93,7 @@ none_named : (clause : List Lit) → IsWithin clause [] → clause ≡ []
 none_named [] within = refl
 none_named (l ∷ ls) within = absurd (within l (inl refl))
 
-step_fresh : (c : Circuit) (steps : List (List Lit)) (clause : List Lit) → EndsNext c steps (Conflict clause) → IsFresh c.inputs (clauses_of c ++ steps) clause
+pub step_fresh : (c : Circuit) (steps : List (List Lit)) (clause : List Lit) → EndsNext c steps (Conflict clause) → IsFresh c.inputs (clauses_of c ++ steps) clause
 step_fresh c steps clause descent =
     descent_fresh c.inputs (clauses_of c ++ steps) clause nothing []
     (some_order c.inputs (clauses_of c ++ steps) (Conflict clause) nothing [] descent)

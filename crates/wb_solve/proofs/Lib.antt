@@ -8,4 +8,7 @@ pub mod Few
 pub mod Outcomes
 pub mod Stable
 pub mod Standings
-pub mod Turns
+pub mod Underway
+pub mod Findings
+pub mod Turning
+pub mod Searching
