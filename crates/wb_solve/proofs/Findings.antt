@@ -1,9 +1,8 @@
 -- What is found among the clauses that a descent knows.
-use Rattle.std.proofs.Common.{◌≡◌, ℕ, zero, suc, ◌+◌, ◌-◌, ◌*◌, ◌^◌, ◌<◌, ◌≤◌, ◌⊎◌, inl, inr, Bool, true, false, ◌&&◌, nat_lt, List, [], ◌∷◌, ◌++◌, length, map, Option, Some, None, refl, sym, ◌∙◌, ap, subst, arith, length-append}
-use Rattle.std.specs.List.{slice_get, list_all}
+use Rattle.std.proofs.Common.{◌≡◌, ℕ, zero, suc, ◌+◌, ◌*◌, ◌<◌, ◌≤◌, ◌⊎◌, inl, inr, Bool, true, false, ◌&&◌, nat_lt, List, [], ◌∷◌, length, Some, None, refl, sym, ◌∙◌, ap, subst, arith, length-append}
+use Rattle.std.specs.List.{slice_get}
 use Rattle.std.proofs.lemmas.Bool.{ltb-true}
 use Rattle.std.proofs.lemmas.List.{length-map}
-use Rattle.std.proofs.lemmas.Option.{slice_get_within}
 use Rattle.wb_gate.specs.declared.gates.Lit.{Lit}
 use Rattle.wb_gate.specs.declared.gates.Gate.{Gate}
 use Rattle.wb_gate.specs.declared.gates.Gate.TheVariants.{And, Xor, Mux, Maj}
@@ -12,18 +11,16 @@ use Rattle.wb_gate.specs.declared.gates.Goal.TheVariants as goal
 use Rattle.wb_gate.specs.Circuit.{Circuit, variables, variable}
 use Rattle.wb_gate.specs.Clauses.{gate_clauses, clauses_from, goal_clauses, clauses_of, names_only}
 use Rattle.wb_derive.specs.declared.steps.Step.{Step}
-use Rattle.wb_derive.specs.Partial.{Partial, nothing, IsFalsified, IsUnit, Occurs}
+use Rattle.wb_derive.specs.Partial.{Partial, IsFalsified, IsUnit, Occurs}
 use Rattle.wb_solve.specs.declared.standing.Standing.{Standing}
 use Rattle.wb_solve.specs.declared.standing.Standing.TheVariants.{Falsified, Other}
 use Rattle.wb_solve.specs.declared.standing.Standing.TheVariants.{Unit as UnitOf}
 use Rattle.wb_solve.specs.declared.scans.Found.{Found}
 use Rattle.wb_solve.specs.declared.scans.Found.TheVariants as found
-use Rattle.wb_solve.specs.Descent.{IsUnitAt, clause_of, Conflict}
+use Rattle.wb_solve.specs.Descent.{clause_of}
 use Rattle.wb_solve.specs.Search.{AreSteps}
-use Rattle.wb_solve.specs.Course.{AllBelow, IsOther, IsStanding, StandsAt, UnitWithin, NoneFalsifiedBelow, NoneUnitBelow, IsFound, noted, clauses_in, known_to}
-use Rattle.wb_solve.proofs.Units.{unit_one}
+use Rattle.wb_solve.specs.Course.{AllBelow, IsStanding, StandsAt, UnitWithin, NoneFalsifiedBelow, NoneUnitBelow, IsFound, noted, clauses_in, known_to}
 use Rattle.wb_solve.proofs.Lists.{get_left, get_after}
-use Rattle.wb_solve.proofs.Fresh.{IsFresh}
 use Rattle.wb_solve.proofs.Few.{step_fresh}
 
 occurs_below : (n : ℕ) (clause : List Lit) (l : Lit) → names_only n clause ≡ true → Occurs l clause → l.var < n

@@ -1,6 +1,5 @@
 -- The assumptions of a descent: their clause is new.
 use Rattle.std.proofs.Common.{◌≡◌, ℕ, ◌+◌, ◌<◌, ◌≤◌, ◌⊎◌, inl, inr, Bool, true, false, not, ◌&&◌, nat_le, if◌then◌else◌, eqb, List, [], ◌∷◌, ◌++◌, Some, None, refl, sym, ap, subst, arith, eq-eqb}
-use Rattle.std.specs.List.{slice_get}
 use Rattle.std.proofs.lemmas.Bool.Decides.{nat_tests}
 use Rattle.wb_gate.specs.declared.gates.Lit.{Lit}
 use Rattle.wb_gate.specs.Circuit.{minus, variable}

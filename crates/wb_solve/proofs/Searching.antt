@@ -1,26 +1,24 @@
 -- A search step by step.
-use Rattle.std.proofs.Common.{◌≡◌, ℕ, zero, suc, ◌+◌, ◌-◌, ◌<◌, ◌≤◌, ◌⊎◌, inl, inr, Bool, true, false, ◌&&◌, nat_lt, List, [], ◌∷◌, ◌++◌, length, map, take, Option, Some, None, refl, sym, ◌∙◌, ap, subst, arith, length-append}
-use Rattle.std.specs.List.{slice_get, list_all}
+use Rattle.std.proofs.Common.{◌≡◌, ℕ, zero, suc, ◌+◌, ◌-◌, ◌<◌, ◌≤◌, ◌⊎◌, inl, inr, Bool, true, false, nat_lt, List, [], ◌∷◌, ◌++◌, length, map, take, Option, Some, None, refl, sym, ◌∙◌, ap, subst, arith, length-append, eqb, eq-eqb}
+use Rattle.std.specs.List.{slice_get}
+use Rattle.std.proofs.lemmas.Bool.{eqb-true, false≢true}
 use Rattle.std.proofs.lemmas.Bool.Decides.{nat_tests}
-use Rattle.std.proofs.lemmas.List.{length-map, map-append, take-append-le}
-use Rattle.std.proofs.lemmas.Option.{slice_get_within, slice_get-map}
+use Rattle.std.proofs.lemmas.List.{length-map, map-append}
+use Rattle.std.proofs.lemmas.Option.{slice_get_within}
 use Rattle.wb_gate.specs.declared.gates.Lit.{Lit}
-use Rattle.wb_gate.specs.Circuit.{Circuit, Assignment, IsCircuit, variables, variable}
-use Rattle.wb_gate.specs.Clauses.{clauses_of, names_only, Satisfies}
+use Rattle.wb_gate.specs.Circuit.{Circuit, IsCircuit, variables}
+use Rattle.wb_gate.specs.Clauses.{clauses_of, names_only}
 use Rattle.wb_derive.specs.declared.steps.Step.{Step}
-use Rattle.wb_derive.specs.declared.verdicts.Check.TheVariants.{Yes}
-use Rattle.wb_derive.specs.Partial.{Partial, nothing, refute}
-use Rattle.wb_derive.specs.Lawful.{IsLawful, IsLawfulAt, Refutes, known_before}
-use Rattle.wb_derive.specs.Verdict.{AreLawful, EndsEmpty, IsVerdict}
-use Rattle.wb_solve.specs.Descent.{IsStable, AreValued, Conflict, Values, IsDescent, clause_of}
-use Rattle.wb_solve.specs.Search.{EndsNext, AreSteps, NoneEmpty, Satisfied, Refuted, Stopped, IsOutcome}
+use Rattle.wb_derive.specs.Lawful.{IsLawful, IsLawfulAt}
+use Rattle.wb_derive.specs.Verdict.{AreLawful, EndsEmpty}
+use Rattle.wb_solve.specs.Descent.{Conflict, clause_of}
+use Rattle.wb_solve.specs.Search.{EndsNext, AreSteps, NoneEmpty, Refuted, IsOutcome}
 use Rattle.wb_solve.specs.Laws.{StableValuesSatisfy}
 use Rattle.wb_solve.specs.Course.{value_in, partial_of, clauses_in, known_to, AllBelow}
 use Rattle.wb_solve.specs.Turns.{value_or_false, IsConflict, AreEndValues}
-use Rattle.wb_solve.specs.Answers.{HasValues, IsSat, IsUnsat, IsSpent, IsSearching}
-use Rattle.wb_solve.proofs.Lists.{get_left, get_after}
+use Rattle.wb_solve.specs.Answers.{IsSat, IsUnsat, IsSpent, IsSearching}
+use Rattle.wb_solve.proofs.Lists.{get_left}
 use Rattle.wb_solve.proofs.Few.{step_fresh}
-use Rattle.wb_solve.proofs.Fresh.{IsFresh}
 
 take_all : {X : Type 0} (xs ys : List X) → take (length xs) (xs ++ ys) ≡ xs
 take_all [] [] = refl
@@ -60,6 +58,7 @@ steps_more c steps clause are filled next = record {
     by place other (inr here) =
         let front : take place (steps ++ (clause ∷ [])) ≡ steps = ap (λ k. take k (steps ++ (clause ∷ []))) here.0 ∙ take_all steps (clause ∷ []) in
         subst (λ ys. EndsNext c ys (Conflict other)) (sym front) (subst (λ d. EndsNext c steps (Conflict d)) here.1 next)
+
     before : (place : ℕ) (other : List Lit) → place + 1 < length (steps ++ (clause ∷ [])) → other ≡ [] → (slice_get steps place ≡ Some other) ⊎ ((place ≡ length steps) × (clause ≡ other)) → ⊥
     before place other h empty (inl e) = filled place other e empty
     before place other h empty (inr here) =
@@ -102,6 +101,7 @@ lawful_more c steps step are is place h =
   where
     split : (j k : ℕ) → (j < k) ⊎ (k ≤ j)
     split j k = grind arith
+
     by : (place < length steps) ⊎ (length steps ≤ place) → place < length steps + 1 → IsLawfulAt c (steps ++ (step ∷ [])) place
     by (inl before) h =
         let old = are place before in
@@ -185,3 +185,14 @@ sat_from c limit steps list law circuit is values h =
       same = same;
       satisfied = λ v has. law.satisfied c (clauses_in steps) p v circuit values.3 values.4 (λ x below. same x below ∙ has x below);
     }
+
+pub empty_is : (d : List Lit) (b : Bool) → b ≡ eqb (length d) 0 → b ≡ true → d ≡ []
+empty_is [] b e f = refl
+empty_is (l ∷ ls) b e f =
+    let none : length (l ∷ ls) ≡ 0 = eqb-true (length (l ∷ ls)) 0 (sym e ∙ f) in
+    absurd (omega arith)
+
+pub filled_is : (d : List Lit) (b : Bool) → b ≡ eqb (length d) 0 → b ≡ false → d ≡ [] → ⊥
+filled_is d b e f empty =
+    let none : eqb (length d) 0 ≡ true = eq-eqb (length d) 0 (ap (λ (ls : List Lit). length ls) empty) in
+    false≢true (sym f ∙ e ∙ none)

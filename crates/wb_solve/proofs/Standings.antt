@@ -1,14 +1,12 @@
 -- What a clause is, as it is computed.
-use Rattle.std.proofs.Common.{◌≡◌, ℕ, ◌<◌, ◌⊎◌, inl, inr, Bool, true, false, not, ◌&&◌, ◌||◌, if◌then◌else◌, eqb, find, List, [], ◌∷◌, Option, Some, None, refl, sym, ◌∙◌, ap, ap₂, subst, eq-eqb}
-use Rattle.std.specs.List.{slice_get, list_all}
+use Rattle.std.proofs.Common.{◌≡◌, ℕ, ◌⊎◌, inl, inr, Bool, true, false, ◌&&◌, ◌||◌, if◌then◌else◌, eqb, find, List, [], ◌∷◌, Option, Some, None, refl, sym, ◌∙◌, ap, ap₂, eq-eqb}
 use Rattle.std.proofs.lemmas.Bool.{eqb-true, false≢true}
 use Rattle.wb_gate.specs.declared.gates.Lit.{Lit}
-use Rattle.wb_derive.specs.Partial.{Partial, IsFalse, IsOpen, IsFalsified, Occurs, AreFalseBut, IsUnit}
-use Rattle.wb_solve.specs.declared.standing.Standing.{Standing}
+use Rattle.wb_derive.specs.Partial.{Partial, IsFalse, IsOpen, IsFalsified, Occurs, AreFalseBut}
 use Rattle.wb_solve.specs.declared.standing.Standing.TheVariants.{Falsified, Other}
 use Rattle.wb_solve.specs.declared.standing.Standing.TheVariants.{Unit as UnitOf}
-use Rattle.wb_solve.specs.Course.{is_false_value, is_false, is_none, is_open, same_bool, is_same, all_false, all_false_but, unit_with, standing, IsOther, IsStanding}
-use Rattle.wb_solve.proofs.Units.{unit_or_false, open_is}
+use Rattle.wb_solve.specs.Course.{is_false_value, is_false, is_none, is_open, same_bool, is_same, all_false, all_false_but, unit_with, standing, IsStanding}
+use Rattle.wb_solve.proofs.Units.{open_is}
 
 false_is : (o : Option Bool) (neg : Bool) → is_false_value o neg ≡ true → o ≡ Some neg
 false_is None neg h = cc
@@ -115,18 +113,21 @@ standing_is p clause = by (all_false p clause) refl
   where
     none : all_false p clause ≡ false → IsFalsified p clause → ⊥
     none e all = false≢true (sym e ∙ is_falsified_true p clause all)
+
     last : all_false p clause ≡ false → (l : Lit) → IsFirst p clause l → (b : Bool) → all_false_but l p clause ≡ b → IsStanding p clause (if b then UnitOf l else Other)
     last e l first true but = record { there = first.there; still_open = first.still_open; others = but_is l p clause but }
     last e l first false but = record {
       no_falsified = none e;
       no_unit = λ k unit. false≢true (sym but ∙ ap (λ m. all_false_but m p clause) (open_is k l p clause first.there first.still_open unit.others) ∙ but_true k p clause unit.others);
     }
+
     found : all_false p clause ≡ false → (o : Option Lit) → find (is_open p) clause ≡ o → IsStanding p clause (unit_with o p clause)
     found e None f = record {
       no_falsified = none e;
       no_unit = λ k unit. first_none p clause k f unit.there unit.still_open;
     }
     found e (Some l) f = last e l (first_some p clause l f) (all_false_but l p clause) refl
+
     by : (b : Bool) → all_false p clause ≡ b → IsStanding p clause (if b then Falsified else unit_with (find (is_open p) clause) p clause)
     by true e = falsified_is p clause e
     by false e = found e (find (is_open p) clause) refl

@@ -1,5 +1,5 @@
 -- A descent turn by turn.
-use Rattle.std.proofs.Common.{◌≡◌, ℕ, zero, suc, ◌+◌, ◌<◌, ◌≤◌, ◌⊎◌, inl, inr, Bool, true, false, not, if◌then◌else◌, eqb, List, [], ◌∷◌, ◌++◌, length, map, set, replicate, Option, Some, None, refl, sym, ◌∙◌, ap, subst, arith, eq-eqb, append_assoc}
+use Rattle.std.proofs.Common.{◌≡◌, ℕ, zero, suc, ◌<◌, inl, inr, Bool, true, false, not, if◌then◌else◌, eqb, List, [], ◌∷◌, ◌++◌, length, set, replicate, Option, Some, None, refl, sym, ◌∙◌, ap, subst, arith, eq-eqb, append_assoc}
 use Rattle.std.specs.List.{slice_get}
 use Rattle.std.proofs.lemmas.Bool.{eqb-true}
 use Rattle.std.proofs.lemmas.List.{append-nil, map-append, length-set, length-replicate}
@@ -7,7 +7,7 @@ use Rattle.wb_gate.specs.declared.gates.Lit.{Lit}
 use Rattle.wb_gate.specs.Circuit.{Circuit, variables, minus, variable}
 use Rattle.wb_derive.specs.Partial.{Partial, nothing, assume, refute, IsFalsified, IsUnit}
 use Rattle.wb_derive.specs.Lawful.{Refutes}
-use Rattle.wb_solve.specs.Descent.{SomeFalsified, IsUnitAt, FirstUnit, IsStable, AreValued, IsFirstOpen, Ended, Conflict, Values, clause_of, conflicts, propagates, assumes, gives, Descends, IsDescent}
+use Rattle.wb_solve.specs.Descent.{SomeFalsified, IsUnitAt, IsStable, AreValued, IsFirstOpen, Conflict, Values, clause_of, conflicts, propagates, assumes, gives, Descends, IsDescent}
 use Rattle.wb_solve.specs.Course.{value_in, partial_of, opens, AllOpen, IsPending, IsUnderway}
 use Rattle.wb_solve.proofs.Partials.{Below, but_below}
 use Rattle.wb_solve.proofs.Fresh.{pending_first, pending_unit, pending_assume, open_before}
@@ -30,9 +30,11 @@ partial_set values l h = λ i x. at x i
   where
     ne_from : (x : ℕ) → eqb x l.var ≡ false → x ≡ l.var → ⊥
     ne_from x e same = let f : eqb x l.var ≡ true = eq-eqb x l.var same in cc
+
     by : (x : ℕ) (b : Bool) → eqb x l.var ≡ b → value_in (slice_get (set values l.var (Some (not l.neg))) x) ≡ (if b then Some (not l.neg) else value_in (slice_get values x))
     by x true e = ap (λ y. value_in (slice_get (set values l.var (Some (not l.neg))) y)) (eqb-true x l.var e) ∙ ap value_in (set_same values l.var (Some (not l.neg)) h)
     by x false e = ap value_in (set_other values l.var x (Some (not l.neg)) (ne_from x e))
+
     at : (x : ℕ) → partial_of (set values l.var (Some (not l.neg))) x ≡ assume (partial_of values) l x
     at x = by x (eqb x l.var) refl
 
@@ -173,9 +175,10 @@ module _ (c : Circuit) (known : List (List Lit)) (values : List (Option Bool)) (
       let ended : IsDescent c.inputs known (Conflict (clause_of is.names)) = is.rest (Conflict (clause_of is.names)) (conflicts p is.names (number, clause, at, f) refl) in
       let here : Refutes known (number ∷ []) p = (clause, at, inl (f, refl)) in
       let whole = is.refutes [] (number ∷ []) tt here in
-      let hinted : Refutes known (hints ++ (number ∷ [])) (refute (clause_of is.names) nothing) = subst (λ xs. Refutes known (hints ++ (number ∷ [])) (refute (clause_of xs) nothing)) (append-nil is.names) whole in
-      (subst (λ ls. IsDescent c.inputs known (Conflict ls)) (sym is.is) ended,
-      subst (λ ls. Refutes known (hints ++ (number ∷ [])) (refute ls nothing)) (sym is.is) hinted)
+      let hinted : Refutes known (hints ++ (number ∷ [])) (refute (clause_of is.names) nothing) = subst (λ xs. Refutes known (hints ++ (number ∷ [])) (refute (clause_of xs) nothing)) (append-nil is.names) whole in (
+        subst (λ ls. IsDescent c.inputs known (Conflict ls)) (sym is.is) ended,
+        subst (λ ls. Refutes known (hints ++ (number ∷ [])) (refute ls nothing)) (sym is.is) hinted,
+      )
 
   pub underway_values : IsStable known p → AreValued c.inputs p → IsDescent c.inputs known (Values p)
   underway_values stable valued = is.rest (Values p) (gives p is.names stable valued refl)

@@ -1,7 +1,6 @@
 -- What an answer of the search says. Hints aside, it is the outcome of the search.
-use Rattle.std.specs.Prelude.{◌≡◌, ℕ, ◌+◌, ◌^◌, ◌<◌, ◌≤◌, Bool, List, [], length, take, Some}
+use Rattle.std.specs.Prelude.{◌≡◌, ℕ, ◌+◌, ◌<◌, ◌≤◌, Bool, List, length, Some}
 use Rattle.std.specs.List.{slice_get}
-use Rattle.wb_gate.specs.declared.gates.Lit.{Lit}
 use Rattle.wb_gate.specs.Circuit.{Circuit, Assignment, variables}
 use Rattle.wb_gate.specs.Clauses.{Satisfies}
 use Rattle.wb_derive.specs.declared.steps.Step.{Step}

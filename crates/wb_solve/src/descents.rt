@@ -136,7 +136,13 @@ fn make_step(alloc: Global, lits: &[Lit], hints: &[u64]) -> Result<Step, OutOfMe
 
 /// The step of a conflict: the clause of the negated assumptions, with the clauses that propagated and then the one
 /// that is falsified as hints.
-fn conflict_step(alloc: Global, formula: &Formula, steps: &[Step], descent: Descent, number: u64) -> Result<Step, OutOfMemory>
+fn conflict_step(
+    alloc: Global,
+    formula: &Formula,
+    steps: &[Step],
+    descent: Descent,
+    number: u64,
+) -> Result<Step, OutOfMemory>
     requires underway { IsUnderwayAt formula.now (known_to formula.now steps.now) descent }
     requires falsified { FalsifiedAt (known_to formula.now steps.now) (partial_of descent.values.items) number }
     ensures { IfOk result (λ step. IsConflict formula.now (known_to formula.now steps.now) step) }
@@ -147,7 +153,12 @@ fn conflict_step(alloc: Global, formula: &Formula, steps: &[Step], descent: Desc
 }
 
 /// The values with which a descent ends.
-fn end_values(alloc: Global, formula: &Formula, steps: &[Step], descent: Descent) -> Result<Values, OutOfMemory>
+fn end_values(
+    alloc: Global,
+    formula: &Formula,
+    steps: &[Step],
+    descent: Descent,
+) -> Result<Values, OutOfMemory>
     requires underway { IsUnderwayAt formula.now (known_to formula.now steps.now) descent }
     requires stable { IsStable (known_to formula.now steps.now) (partial_of descent.values.items) }
     requires valued { AreValued formula.now.inputs (partial_of descent.values.items) }

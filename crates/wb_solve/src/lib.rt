@@ -13,8 +13,8 @@ mod search;
 mod standing;
 mod values;
 
-pub use search::{Answer, solve};
-pub use values::Values;
 pub use laws::{
     order_is_free, outcomes_are_one, propagation_is_confluent, stable_values_satisfy, steps_are_few,
 };
+pub use search::{Answer, solve};
+pub use values::Values;

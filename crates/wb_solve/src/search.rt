@@ -1,12 +1,12 @@
 //! The search.
-ghost use Rattle.std.specs.Prelude.{◌≡◌, ◌≤◌, IfOk, length};
+ghost use Rattle.std.specs.Prelude.{◌≡◌, ◌==◌, IfOk, length};
 ghost use Rattle.wb_solve.specs.Answers.{IsAnswer, IsSearching};
 
 use crate::descents::{DescentEnd, descend};
 use crate::laws::stable_values_satisfy;
 use crate::values::Values;
 use std::alloc::Global;
-use wb_derive::Derivation;
+use wb_derive::{Derivation, Step};
 use wb_gate::Formula;
 use wb_word::OutOfMemory;
 
@@ -21,8 +21,20 @@ pub enum Answer {
     Spent(Derivation),
 }
 
+/// Whether the clause of a step is empty.
+fn is_empty(step: &Step) -> bool
+    ensures { result ≡ (length step.now.clause == 0) }
+{
+    step.clause.lits().is_empty()
+}
+
 /// The descent after the last step that may be kept.
-fn last_descent(alloc: Global, formula: &Formula, limit: u64, derivation: Derivation) -> Result<Answer, OutOfMemory>
+fn last_descent(
+    alloc: Global,
+    formula: &Formula,
+    limit: u64,
+    derivation: Derivation,
+) -> Result<Answer, OutOfMemory>
     requires searching { IsSearching formula.now derivation }
     requires count { length derivation ≡ limit }
     ensures { IfOk result (λ answer. IsAnswer formula.now limit answer) }
@@ -32,7 +44,7 @@ fn last_descent(alloc: Global, formula: &Formula, limit: u64, derivation: Deriva
     match descend(alloc, formula, derivation.steps())? {
         DescentEnd::Values(values) => Ok(Answer::Sat(values)),
         DescentEnd::Conflict(step) => {
-            if !step.clause.lits().is_empty() {
+            if !is_empty(&step) {
                 return Ok(Answer::Spent(derivation));
             }
             let mut whole = derivation;
@@ -53,7 +65,7 @@ pub fn solve(alloc: Global, formula: &Formula, limit: u64) -> Result<Answer, Out
         match descend(alloc, formula, derivation.steps())? {
             DescentEnd::Values(values) => return Ok(Answer::Sat(values)),
             DescentEnd::Conflict(step) => {
-                let is_last = step.clause.lits().is_empty();
+                let is_last = is_empty(&step);
                 derivation.push(step)?;
                 if is_last {
                     return Ok(Answer::Unsat(derivation));

@@ -65,7 +65,9 @@ fn all_false(values: &[Option<bool>], clause: &[Lit]) -> bool
 fn all_false_but(lit: Lit, values: &[Option<bool>], clause: &[Lit]) -> bool
     ensures { result ≡ all_false_but lit (partial_of values.now) clause.now }
 {
-    clause.iter().all(|other| is_same(*other, lit) || is_false(values, *other))
+    clause
+        .iter()
+        .all(|other| is_same(*other, lit) || is_false(values, *other))
 }
 
 /// The first open literal of a clause.

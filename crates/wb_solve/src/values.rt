@@ -40,7 +40,10 @@ impl Values {
     pub(crate) fn of_descent(alloc: Global, values: &[Option<bool>]) -> Result<Values, OutOfMemory>
         ensures { IfOk result (λ made. made ≡ map value_or_false values.now) }
     {
-        let list = values.iter().map(|value| value.unwrap_or(false)).collect(alloc)?;
+        let list = values
+            .iter()
+            .map(|value| value.unwrap_or(false))
+            .collect(alloc)?;
         Ok(Values { list })
     }
 }

@@ -1,6 +1,5 @@
-use Rattle.std.proofs.Common.{◌≡◌, ◌+◌, ◌*◌, ◌≤◌, ◌^◌, length, ◌∙◌, sym, ap, arith}
+use Rattle.std.proofs.Common.{◌+◌, ◌*◌, ◌≤◌, ◌^◌, length, ◌∙◌, sym, ap, arith}
 use Rattle.wb_gate.specs.Clauses.{clauses_of}
-use Rattle.wb_solve.specs.Course.{known_to}
 use Rattle.wb_solve.proofs.Findings.{clauses_few, length_known}
 use Rattle.wb_solve.proofs.scans.count_known.Goals as goal
 

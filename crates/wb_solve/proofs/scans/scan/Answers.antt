@@ -1,6 +1,6 @@
-use Rattle.std.proofs.Common.{◌≡◌, ◌+◌, length, sym, ◌∙◌, ap, subst, arith}
+use Rattle.std.proofs.Common.{◌≡◌, ◌+◌, length, sym, subst, arith}
 use Rattle.wb_gate.specs.Circuit.{variables}
-use Rattle.wb_solve.specs.Course.{partial_of, known_to, IsFound, noted}
+use Rattle.wb_solve.specs.Course.{partial_of, known_to, IsFound}
 use Rattle.wb_solve.proofs.Findings.{found_more}
 use Rattle.wb_solve.proofs.scans.scan.Goals as goal
 

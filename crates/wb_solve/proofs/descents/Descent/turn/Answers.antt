@@ -1,4 +1,4 @@
-use Rattle.std.proofs.Common.{◌≡◌, List, Bool, Option, Some, None, length, subst}
+use Rattle.std.proofs.Common.{Some, None, length, subst}
 use Rattle.wb_gate.specs.Circuit.{variables}
 use Rattle.wb_solve.specs.declared.scans.Found.TheVariants as found
 use Rattle.wb_solve.specs.Course.{partial_of, known_to, IsFound}
