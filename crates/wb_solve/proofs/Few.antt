@@ -11,7 +11,7 @@ use Rattle.wb_gate.specs.Circuit.{Circuit, variable}
 use Rattle.wb_gate.specs.Clauses.{clauses_of}
 use Rattle.wb_derive.specs.Partial.{nothing, Occurs}
 use Rattle.wb_solve.specs.Descent.{Conflict, clause_of}
-use Rattle.wb_solve.specs.Search.{EndsNext, AreSteps}
+use Rattle.wb_solve.specs.Search.{EndsNext, AreSteps, NoneEmpty}
 use Rattle.wb_solve.specs.Laws.{IsWithin, StepsAreFew}
 use Rattle.wb_solve.proofs.Lists.{get_after, get_taken}
 use Rattle.wb_solve.proofs.Orders.{some_order}
@@ -99,7 +99,7 @@ step_fresh c steps clause descent =
     (some_order c.inputs (clauses_of c ++ steps) (Conflict clause) nothing [] descent)
     (pending_first c.inputs (clauses_of c ++ steps))
 
-new_step : (c : Circuit) (steps : List (List Lit)) (clause : List Lit) → EndsNext c steps (Conflict clause) → (clause ≡ [] → ⊥) → NoneWithin (clauses_of c ++ steps) clause
+pub new_step : (c : Circuit) (steps : List (List Lit)) (clause : List Lit) → EndsNext c steps (Conflict clause) → (clause ≡ [] → ⊥) → NoneWithin (clauses_of c ++ steps) clause
 new_step c steps clause descent filled = by ((step_fresh c steps clause descent).fresh)
   where
     by : (clause ≡ []) ⊎ NoneWithin (clauses_of c ++ steps) clause → NoneWithin (clauses_of c ++ steps) clause
@@ -164,7 +164,7 @@ unmap n [] k x e = absurd (cc)
 unmap n (s ∷ steps) zero x e = (s, refl, cc)
 unmap n (s ∷ steps) (suc k) x e = unmap n steps k x e
 
-few : (c : Circuit) (steps : List (List Lit)) → AreSteps c steps → length steps ≤ 2 ^ c.inputs
+pub few : (c : Circuit) (steps : List (List Lit)) → AreSteps c steps → length steps ≤ 2 ^ c.inputs
 few c steps are =
     let codes = map (code c.inputs) steps in
     let apart_codes : IsDistinct eqb codes = distinct codes (λ j k x y less e f same. differ j k x y less e f same) in
@@ -177,8 +177,50 @@ few c steps are =
         let two = unmap c.inputs steps k y f in
         apart c steps are j k one.0 two.0 less one.1 two.1 (one.2 ∙ same ∙ sym two.2)
 
+code-nil : (n : ℕ) → code n [] ≡ 0
+unfolding code names
+code-nil zero = refl
+code-nil (suc n) = rw (code-nil n) refl
+
+-- a step whose number is none names no input
+zero_empty : (c : Circuit) (steps : List (List Lit)) → AreSteps c steps → (k : ℕ) (clause : List Lit) → slice_get steps k ≡ Some clause → code c.inputs clause ≡ 0 → clause ≡ []
+zero_empty c steps are k clause at e =
+    let fresh = step_fresh c (take k steps) clause (are.descents k clause at) in
+    let same : code c.inputs (clause_of fresh.assumed) ≡ code c.inputs (clause_of []) = ap (code c.inputs) (sym fresh.is) ∙ e ∙ sym (code-nil c.inputs) in
+    fresh.is ∙ none_named (clause_of fresh.assumed) (names_within c.inputs fresh.assumed [] fresh.below same)
+
+pub filled : (c : Circuit) (steps : List (List Lit)) → AreSteps c steps → NoneEmpty steps → length steps < 2 ^ c.inputs
+filled c steps are none =
+    let codes = map (code c.inputs) steps in
+    let apart_codes : IsDistinct eqb (0 ∷ codes) = distinct (0 ∷ codes) differ in
+    let bound : length (0 ∷ codes) ≤ 2 ^ c.inputs = length-le_from_distinct_below (0 ∷ codes) (2 ^ c.inputs) apart_codes below in
+    let count = length-map steps (code c.inputs) in
+    omega arith
+  where
+    differ : (j k x y : ℕ) → j < k → slice_get (0 ∷ map (code c.inputs) steps) j ≡ Some x → slice_get (0 ∷ map (code c.inputs) steps) k ≡ Some y → x ≡ y → ⊥
+    differ j zero x y less e f same = absurd (omega arith)
+    differ zero (suc k) x y less e f same =
+        let found = unmap c.inputs steps k y f in
+        let nil : 0 ≡ x = cc in
+        none k found.0 found.1 (zero_empty c steps are k found.0 found.1 (found.2 ∙ sym same ∙ sym nil))
+    differ (suc j) (suc k) x y less e f same =
+        let one = unmap c.inputs steps j x e in
+        let two = unmap c.inputs steps k y f in
+        apart c steps are j k one.0 two.0 (omega arith) one.1 two.1 (one.2 ∙ same ∙ sym two.2)
+
+    below : (q : ℕ) → list_any (eqb q) (0 ∷ map (code c.inputs) steps) ≡ true → q < 2 ^ c.inputs
+    below q h = by (eqb q 0) refl h
+      where
+        by : (b : Bool) → eqb q 0 ≡ b → (b || list_any (eqb q) (map (code c.inputs) steps)) ≡ true → q < 2 ^ c.inputs
+        by true e h =
+            let none : q ≡ 0 = eqb-true q 0 e in
+            let low = code-below c.inputs [] in
+            omega arith
+        by false e h = codes_below c.inputs steps q h
+
 pub steps_are_few : StepsAreFew
 steps_are_few = record {
   new = λ c steps clause descent filled. new_step c steps clause descent filled;
   few = few;
+  filled = filled;
 }

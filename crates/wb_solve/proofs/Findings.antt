@@ -18,8 +18,8 @@ use Rattle.wb_solve.specs.declared.standing.Standing.TheVariants.{Unit as UnitOf
 use Rattle.wb_solve.specs.declared.scans.Found.{Found}
 use Rattle.wb_solve.specs.declared.scans.Found.TheVariants as found
 use Rattle.wb_solve.specs.Descent.{clause_of}
-use Rattle.wb_solve.specs.Search.{AreSteps}
-use Rattle.wb_solve.specs.Course.{AllBelow, IsStanding, StandsAt, UnitWithin, NoneFalsifiedBelow, NoneUnitBelow, IsFound, noted, clauses_in, known_to}
+use Rattle.wb_solve.specs.Search.{clauses_in, AreSteps}
+use Rattle.wb_solve.specs.Course.{AllBelow, IsStanding, StandsAt, UnitWithin, NoneFalsifiedBelow, NoneUnitBelow, IsFound, noted, known_to}
 use Rattle.wb_solve.proofs.Lists.{get_left, get_after}
 use Rattle.wb_solve.proofs.Few.{step_fresh}
 

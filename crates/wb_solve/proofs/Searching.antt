@@ -1,5 +1,5 @@
 -- A search step by step.
-use Rattle.std.proofs.Common.{◌≡◌, ℕ, zero, suc, ◌+◌, ◌-◌, ◌<◌, ◌≤◌, ◌⊎◌, inl, inr, Bool, true, false, nat_lt, List, [], ◌∷◌, ◌++◌, length, map, take, Option, Some, None, refl, sym, ◌∙◌, ap, subst, arith, length-append, eqb, eq-eqb}
+use Rattle.std.proofs.Common.{◌≡◌, ℕ, zero, suc, ◌+◌, ◌-◌, ◌^◌, ◌<◌, ◌≤◌, ◌⊎◌, inl, inr, Bool, true, false, nat_lt, List, [], ◌∷◌, ◌++◌, length, map, take, Option, Some, None, refl, sym, ◌∙◌, ap, subst, arith, length-append, eqb, eq-eqb}
 use Rattle.std.specs.List.{slice_get}
 use Rattle.std.proofs.lemmas.Bool.{eqb-true, false≢true}
 use Rattle.std.proofs.lemmas.Bool.Decides.{nat_tests}
@@ -12,13 +12,15 @@ use Rattle.wb_derive.specs.declared.steps.Step.{Step}
 use Rattle.wb_derive.specs.Lawful.{IsLawful, IsLawfulAt}
 use Rattle.wb_derive.specs.Verdict.{AreLawful, EndsEmpty}
 use Rattle.wb_solve.specs.Descent.{Conflict, clause_of}
-use Rattle.wb_solve.specs.Search.{EndsNext, AreSteps, NoneEmpty, Refuted, IsOutcome}
+use Rattle.wb_solve.specs.Search.{clauses_in, EndsNext, AreSteps, NoneEmpty, Refuted, IsOutcome}
 use Rattle.wb_solve.specs.Laws.{StableValuesSatisfy}
-use Rattle.wb_solve.specs.Course.{value_in, partial_of, clauses_in, known_to, AllBelow}
-use Rattle.wb_solve.specs.Turns.{value_or_false, IsConflict, AreEndValues}
-use Rattle.wb_solve.specs.Answers.{IsSat, IsUnsat, IsSpent, IsSearching}
+use Rattle.wb_solve.specs.Course.{value_in, partial_of, known_to, AllBelow}
+use Rattle.wb_solve.specs.Turns.{value_or_false, IsConflict, AreEndValues, IsSearching}
+use Rattle.wb_solve.specs.Answers.{IsSat, IsUnsat, IsSpent}
 use Rattle.wb_solve.proofs.Lists.{get_left}
-use Rattle.wb_solve.proofs.Few.{step_fresh}
+use Rattle.wb_solve.proofs.Few.{step_fresh, new_step}
+use Rattle.wb_solve.proofs.Few.{few as few_steps}
+use Rattle.wb_solve.proofs.Few.{filled as filled_steps}
 
 take_all : {X : Type 0} (xs ys : List X) → take (length xs) (xs ++ ys) ≡ xs
 take_all [] [] = refl
@@ -147,19 +149,29 @@ unsat_from c limit steps step is conflict empty h =
     let few : length clauses ≤ limit + 1 = omega arith in
     let told : IsOutcome c limit (Refuted clauses) = (steps_more c (clauses_in steps) step.clause is.steps_so_far is.filled conflict.0, few, (length (clauses_in steps), clause_count, at)) in
     let last : length all - 1 ≡ length steps = omega arith in
+    let sizes : length clauses ≡ length all = omega arith in
     let ends : EndsEmpty all = record { last = step; found = ap (slice_get all) last ∙ get_last steps step; empty = empty } in
     record {
       outcome = subst (λ cs. IsOutcome c limit (Refuted cs)) (sym (clauses_more steps step)) told;
       accepted = (lawful_more c steps step is.lawful (conflict_lawful c steps step conflict), ends);
       few = omega arith;
+      bound = subst (λ n. n ≤ 2 ^ c.inputs) sizes (few_steps c clauses told.0);
     }
 
 pub spent_from : (c : Circuit) (limit : ℕ) (steps : List Step) (step : Step) → IsSearching c steps → IsConflict c (known_to c steps) step → (step.clause ≡ [] → ⊥) → length steps ≡ limit → IsSpent c limit steps
-spent_from c limit steps step is conflict new count = record {
-  outcome = (is.steps_so_far, is.filled, length-map steps (λ (s : Step). s.clause) ∙ count, (step.clause, new, conflict.0));
-  lawful = is.lawful;
-  count = count;
-}
+spent_from c limit steps step is conflict new count =
+    let sizes = length-map steps (λ (s : Step). s.clause) in
+    let clauses = clauses_in steps ++ (step.clause ∷ []) in
+    let clause_count = length-append (clauses_in steps) (step.clause ∷ []) in
+    let fewer : length clauses < 2 ^ c.inputs = filled_steps c clauses (steps_more c (clauses_in steps) step.clause is.steps_so_far is.filled conflict.0) (filled_more (clauses_in steps) step.clause is.filled new) in
+    record {
+      outcome = (is.steps_so_far, is.filled, sizes ∙ count, (step.clause, new, conflict.0));
+      lawful = is.lawful;
+      count = count;
+      filled = is.filled;
+      new = λ place clause at. new_step c (take place (clauses_in steps)) clause (is.steps_so_far.descents place clause at) (is.filled place clause at);
+      bound = omega arith;
+    }
 
 value_back : (o : Option (Option Bool)) (b : Bool) → value_in o ≡ Some b → (inner : Option Bool) × (o ≡ Some inner) × (inner ≡ Some b)
 value_back None b e = absurd (cc)

@@ -14,6 +14,7 @@ use Rattle.wb_solve.specs.declared.standing.Standing.TheVariants.{Unit as UnitOf
 use Rattle.wb_solve.specs.declared.scans.Found.{Found}
 use Rattle.wb_solve.specs.declared.scans.Found.TheVariants as found
 use Rattle.wb_solve.specs.Descent.{Ended, IsUnitAt, Descends, IsDescent, clause_of}
+use Rattle.wb_solve.specs.Search.{clauses_in}
 use Rattle.wb_solve.specs.Laws.{IsWithin}
 
 -- the values that a list of them gives
@@ -107,10 +108,6 @@ abbrev pub opens : List (Option Bool) → ℕ
 opens [] = 0
 opens (None ∷ values) = opens values + 1
 opens (Some b ∷ values) = opens values
-
--- the clauses of steps
-abbrev pub clauses_in : List Step → List (List Lit)
-clauses_in steps = map (λ s. s.clause) steps
 
 -- the clauses that a descent knows
 abbrev pub known_to : Circuit → List Step → List (List Lit)

@@ -6,7 +6,7 @@ use Rattle.wb_gate.specs.Circuit.{Circuit, Assignment, IsCircuit, variables}
 use Rattle.wb_gate.specs.Clauses.{clauses_of, Satisfies}
 use Rattle.wb_derive.specs.Partial.{Partial, Occurs}
 use Rattle.wb_solve.specs.Descent.{SomeFalsified, IsStable, AreValued, Ended, Conflict, Descends, DescendsInSomeOrder, Propagates}
-use Rattle.wb_solve.specs.Search.{EndsNext, AreSteps, Outcome, IsOutcome}
+use Rattle.wb_solve.specs.Search.{EndsNext, AreSteps, NoneEmpty, Outcome, IsOutcome}
 
 -- From given values, in whatever order unit clauses are taken, propagation meets a falsified clause in every order
 -- or in none, and without one it ends with the same values.
@@ -32,11 +32,12 @@ pub record StableValuesSatisfy : Type 0 where
 abbrev pub IsWithin : List Lit → List Lit → Type 0
 IsWithin part whole = (l : Lit) → Occurs l part → Occurs l whole
 
--- A step that isn't empty contains no clause of the formula and no earlier step, and there are at most as many steps
--- as the inputs have assignments.
+-- A step that isn't empty contains no clause of the formula and no earlier step. There are at most as many steps as
+-- the inputs have assignments, and fewer where none is empty.
 pub record StepsAreFew : Type 0 where
   pub new : (c : Circuit) (steps : List (List Lit)) (clause : List Lit) → EndsNext c steps (Conflict clause) → (clause ≡ [] → ⊥) → (number : ℕ) (known : List Lit) → slice_get (clauses_of c ++ steps) number ≡ Some known → IsWithin known clause → ⊥
   pub few : (c : Circuit) (steps : List (List Lit)) → AreSteps c steps → length steps ≤ 2 ^ c.inputs
+  pub filled : (c : Circuit) (steps : List (List Lit)) → AreSteps c steps → NoneEmpty steps → length steps < 2 ^ c.inputs
 
 -- A search has one outcome at a limit.
 pub record OutcomesAreOne : Type 0 where

@@ -1,12 +1,17 @@
 -- The search: descents one after the other. Each clause with which a descent ends is the next step, and the next
 -- descent has it too. The search ends at the empty clause or at values.
-use Rattle.std.specs.Prelude.{◌≡◌, ℕ, ◌+◌, ◌<◌, ◌≤◌, List, [], ◌++◌, length, take, Some}
+use Rattle.std.specs.Prelude.{◌≡◌, ℕ, ◌+◌, ◌<◌, ◌≤◌, List, [], ◌++◌, length, map, take, Some}
 use Rattle.std.specs.List.{slice_get}
 use Rattle.wb_gate.specs.declared.gates.Lit.{Lit}
 use Rattle.wb_gate.specs.Circuit.{Circuit}
 use Rattle.wb_gate.specs.Clauses.{clauses_of}
+use Rattle.wb_derive.specs.declared.steps.Step.{Step}
 use Rattle.wb_derive.specs.Partial.{Partial}
 use Rattle.wb_solve.specs.Descent.{Ended, Conflict, Values, IsDescent}
+
+-- the clauses of steps
+abbrev pub clauses_in : List Step → List (List Lit)
+clauses_in steps = map (λ s. s.clause) steps
 
 -- the next descent of a search that has these steps ends so
 abbrev pub EndsNext : Circuit → List (List Lit) → Ended → Type 0

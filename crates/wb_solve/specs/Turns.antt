@@ -1,4 +1,4 @@
--- What a turn of a descent and a descent come to. No public clause cites this.
+-- What a turn, a descent and a search so far come to. No public clause cites this.
 use Rattle.std.specs.Prelude.{◌≡◌, ℕ, ◌<◌, Bool, false, List, map, length, Option, Some, None}
 use Rattle.std.specs.List.{slice_get}
 use Rattle.wb_gate.specs.declared.gates.Lit.{Lit}
@@ -6,12 +6,14 @@ use Rattle.wb_gate.specs.Circuit.{Circuit, variables}
 use Rattle.wb_derive.specs.declared.steps.Step.{Step}
 use Rattle.wb_derive.specs.Partial.{Partial, nothing, refute, IsFalsified}
 use Rattle.wb_derive.specs.Lawful.{Refutes}
+use Rattle.wb_derive.specs.Verdict.{AreLawful}
 use Rattle.wb_solve.specs.declared.descents.Descent.{Descent}
 use Rattle.wb_solve.specs.declared.descents.Turn.{Turn}
 use Rattle.wb_solve.specs.declared.descents.Turn.TheVariants as turn
 use Rattle.wb_solve.specs.declared.descents.DescentEnd.{DescentEnd}
 use Rattle.wb_solve.specs.declared.descents.DescentEnd.TheVariants as end
 use Rattle.wb_solve.specs.Descent.{IsStable, AreValued, IsFirstOpen, Conflict, Values, IsDescent}
+use Rattle.wb_solve.specs.Search.{clauses_in, AreSteps, NoneEmpty}
 use Rattle.wb_solve.specs.Course.{partial_of, opens, IsUnderway}
 
 abbrev pub value_or_false : Option Bool → Bool
@@ -47,3 +49,9 @@ AreEndValues c known list =
 abbrev pub IsEnd : Circuit → List (List Lit) → DescentEnd → Type 0
 IsEnd c known (end.Conflict step) = IsConflict c known step
 IsEnd c known (end.Values list) = AreEndValues c known list
+
+-- so many steps of a search that goes on
+pub record IsSearching (c : Circuit) (steps : List Step) : Type 0 where
+  pub steps_so_far : AreSteps c (clauses_in steps)
+  pub filled : NoneEmpty (clauses_in steps)
+  pub lawful : AreLawful c steps (length steps)

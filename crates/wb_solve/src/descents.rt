@@ -1,8 +1,8 @@
 //! Descents.
 ghost use Rattle.std.specs.Prelude.{◌≡◌, ◌<◌, ◌++◌, [], ◌∷◌, not, true, false, Some, None, IfOk, OnOk, vec_len, slice_set, replicate};
 ghost use Rattle.wb_gate.specs.Circuit.{variables, variable};
-ghost use Rattle.wb_solve.specs.Search.{AreSteps};
-ghost use Rattle.wb_solve.specs.Course.{partial_of, clauses_in, known_to};
+ghost use Rattle.wb_solve.specs.Search.{clauses_in, AreSteps};
+ghost use Rattle.wb_solve.specs.Course.{partial_of, known_to};
 ghost use Rattle.wb_solve.specs.Turns.{FirstOpen, FalsifiedAt, IsUnderwayAt, IsTurn, IsConflict, AreEndValues, IsEnd};
 ghost use Rattle.wb_solve.specs.Descent.{IsStable, AreValued};
 ghost use Rattle.wb_derive.specs.Clause.{rises};

@@ -2,8 +2,8 @@
 ghost use Rattle.std.specs.Prelude.{◌≡◌, ◌<◌, ◌≤◌, ◌+◌, ◌*◌, ◌^◌, length};
 ghost use Rattle.wb_gate.specs.Circuit.{variables};
 ghost use Rattle.wb_gate.specs.Clauses.{clauses_of};
-ghost use Rattle.wb_solve.specs.Search.{AreSteps};
-ghost use Rattle.wb_solve.specs.Course.{partial_of, clauses_in, known_to, StandsAt, UnitWithin, IsFound, noted};
+ghost use Rattle.wb_solve.specs.Search.{clauses_in, AreSteps};
+ghost use Rattle.wb_solve.specs.Course.{partial_of, known_to, StandsAt, UnitWithin, IsFound, noted};
 
 use crate::standing::{Standing, standing_of};
 use wb_derive::Step;

@@ -1,6 +1,7 @@
 //! The search.
 ghost use Rattle.std.specs.Prelude.{◌≡◌, ◌==◌, IfOk, length};
-ghost use Rattle.wb_solve.specs.Answers.{IsAnswer, IsSearching};
+ghost use Rattle.wb_solve.specs.Answers.{IsAnswer};
+ghost use Rattle.wb_solve.specs.Turns.{IsSearching};
 
 use crate::descents::{DescentEnd, descend};
 use crate::laws::stable_values_satisfy;

@@ -1,8 +1,8 @@
 use Rattle.std.proofs.Common.{◌+◌, ◌∷◌, [], length, length-append, sym, ◌∙◌, ap, subst, arith}
 use Rattle.wb_solve.specs.declared.descents.DescentEnd.TheVariants as end
 use Rattle.wb_solve.specs.Course.{known_to}
-use Rattle.wb_solve.specs.Turns.{IsEnd}
-use Rattle.wb_solve.specs.Answers.{IsUnsat, IsSearching}
+use Rattle.wb_solve.specs.Turns.{IsEnd, IsSearching}
+use Rattle.wb_solve.specs.Answers.{IsUnsat}
 use Rattle.wb_solve.proofs.Searching.{searching_first, searching_more, sat_from, unsat_from, empty_is, filled_is}
 use Rattle.wb_solve.proofs.search.solve.Goals as goal
 

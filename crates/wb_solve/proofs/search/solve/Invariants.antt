@@ -1,5 +1,5 @@
 use Rattle.std.proofs.Common.{◌≡◌, length}
-use Rattle.wb_solve.specs.Answers.{IsSearching}
+use Rattle.wb_solve.specs.Turns.{IsSearching}
 use Rattle.wb_solve.proofs.search.solve.Given as goal
 
 abbrev pub invariant-loop-count : goal.invariant-loop-count
