@@ -1,18 +1,18 @@
 -- The steps of a derivation one after the other.
-use Rattle.std.proofs.Common.{◌≡◌, ℕ, zero, suc, ◌+◌, ◌-◌, ◌<◌, ◌≤◌, ◌⊎◌, inl, inr, Bool, true, false, ◌&&◌, if◌then◌else◌, eqb, List, [], ◌∷◌, ◌++◌, length, take, Option, Some, None, refl, sym, ◌∙◌, ap, subst, arith, below_more}
+use Rattle.std.proofs.Common.{◌≡◌, ℕ, zero, suc, ◌+◌, ◌<◌, ◌≤◌, ◌⊎◌, inl, inr, Bool, true, false, List, [], ◌∷◌, take, Option, Some, None, refl, sym, ◌∙◌, ap, subst, arith}
 use Rattle.std.specs.List.{slice_get}
 use Rattle.std.proofs.Math.Path.{fun_ext}
 use Rattle.std.proofs.lemmas.Bool.{ne_eqb, false≢true}
 use Rattle.std.proofs.lemmas.Option.{slice_get_within}
 use Rattle.wb_gate.specs.declared.gates.Lit.{Lit}
 use Rattle.wb_gate.specs.Circuit.{Circuit, variables}
-use Rattle.wb_gate.specs.Clauses.{clauses_of, names_only}
+use Rattle.wb_gate.specs.Clauses.{names_only}
 use Rattle.wb_derive.specs.declared.steps.Step.{Step}
 use Rattle.wb_derive.specs.declared.scratch.Mark.{Mark}
 use Rattle.wb_derive.specs.Partial.{Partial, nothing, refute}
-use Rattle.wb_derive.specs.Lawful.{IsLawful, known_before, IsLawfulAt}
-use Rattle.wb_derive.specs.Verdict.{AreLawful, EndsEmpty, IsStoppedAt}
-use Rattle.wb_derive.specs.Course.{mark_value, partial_of, run, is_lawful, known_from, StampsWithin, NameOnly}
+use Rattle.wb_derive.specs.Lawful.{known_before, IsLawfulAt}
+use Rattle.wb_derive.specs.Verdict.{AreLawful, IsStoppedAt}
+use Rattle.wb_derive.specs.Course.{mark_value, partial_of, run, is_lawful, StampsWithin, NameOnly}
 use Rattle.wb_derive.proofs.Runs.{lawful_is, is_lawful_true}
 
 -- under a new stamp no variable has a value

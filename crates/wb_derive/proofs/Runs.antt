@@ -1,7 +1,6 @@
 -- Hints that refute, as they are computed one after the other.
-use Rattle.std.proofs.Common.{◌≡◌, ℕ, ◌⊎◌, inl, inr, Bool, true, false, ◌&&◌, List, [], ◌∷◌, Option, Some, None, refl, sym, ◌∙◌, ap, subst}
+use Rattle.std.proofs.Common.{◌≡◌, ℕ, ◌⊎◌, inl, inr, Bool, true, false, ◌&&◌, List, [], ◌∷◌, Option, Some, None, refl, ◌∙◌, ap}
 use Rattle.std.specs.List.{slice_get}
-use Rattle.std.proofs.lemmas.Bool.{false≢true}
 use Rattle.wb_gate.specs.declared.gates.Lit.{Lit}
 use Rattle.wb_gate.specs.Clauses.{names_only}
 use Rattle.wb_derive.specs.declared.steps.Step.{Step}
@@ -11,7 +10,7 @@ use Rattle.wb_derive.specs.declared.checks.Status.TheVariants.{Unit as UnitOf}
 use Rattle.wb_derive.specs.Partial.{Partial, nothing, assume, refute, IsFalsified, IsUnit}
 use Rattle.wb_derive.specs.Lawful.{Refutes, IsLawful}
 use Rattle.wb_derive.specs.Course.{status, by_status, take_hint, is_nil, run, is_lawful}
-use Rattle.wb_derive.proofs.Statuses.{IsStatus, IsNeither, status_is, unit_one, falsified_unit}
+use Rattle.wb_derive.proofs.Statuses.{IsStatus, status_is, unit_one, falsified_unit}
 
 nil_is : (hints : List ℕ) → is_nil hints ≡ true → hints ≡ []
 nil_is [] h = refl

@@ -1,7 +1,7 @@
 -- A derivation with the verdict yes shows that no assignment satisfies the formula.
-use Rattle.std.proofs.Common.{◌≡◌, ℕ, zero, suc, ◌+◌, ◌-◌, ◌<◌, ◌≤◌, ◌⊎◌, inl, inr, Bool, true, false, not, ◌&&◌, ◌||◌, if◌then◌else◌, List, [], ◌∷◌, ◌++◌, length, map, take, Option, Some, None, refl, sym, ◌∙◌, ap, ap₂, subst, arith, eqb, append_assoc}
-use Rattle.std.specs.List.{slice_get, list_all, list_any}
-use Rattle.std.proofs.lemmas.Bool.{eqb-true, ne_eqb, false≢true}
+use Rattle.std.proofs.Common.{◌≡◌, ℕ, zero, suc, ◌+◌, ◌-◌, ◌<◌, ◌≤◌, ◌⊎◌, inl, inr, Bool, true, false, not, ◌&&◌, ◌||◌, if◌then◌else◌, List, [], ◌∷◌, ◌++◌, length, map, take, Some, refl, sym, ◌∙◌, ap, subst, arith, eqb, append_assoc}
+use Rattle.std.specs.List.{slice_get, list_all}
+use Rattle.std.proofs.lemmas.Bool.{eqb-true, false≢true}
 use Rattle.std.proofs.lemmas.List.{append-nil, map-append}
 use Rattle.std.proofs.lemmas.List.Folds.{list_all-append}
 use Rattle.std.proofs.lemmas.Option.{slice_get_within}
@@ -12,8 +12,8 @@ use Rattle.wb_derive.specs.declared.steps.Step.{Step}
 use Rattle.wb_derive.specs.declared.verdicts.Check.{Check}
 use Rattle.wb_derive.specs.declared.verdicts.Check.TheVariants.{Yes, No}
 use Rattle.wb_derive.specs.Partial.{Partial, nothing, assume, refute, IsFalse, IsFalsified, AreFalseBut, IsUnit}
-use Rattle.wb_derive.specs.Lawful.{Refutes, IsLawful, known_before, IsLawfulAt}
-use Rattle.wb_derive.specs.Verdict.{AreLawful, EndsEmpty, IsStoppedAt, IsVerdict}
+use Rattle.wb_derive.specs.Lawful.{Refutes, IsLawful, known_before}
+use Rattle.wb_derive.specs.Verdict.{AreLawful, IsStoppedAt, IsVerdict}
 use Rattle.wb_derive.specs.Laws.{VerdictsAreSound}
 
 -- the assignment gives the values that some variables have

@@ -1,5 +1,5 @@
 -- What the checker computes of a clause and of hints. No public clause cites this.
-use Rattle.std.specs.Prelude.{◌≡◌, ℕ, ◌<◌, ◌≤◌, Bool, true, false, not, ◌&&◌, ◌==◌, if◌then◌else◌, List, [], ◌∷◌, ◌++◌, length, map, Option, Some, None}
+use Rattle.std.specs.Prelude.{◌≡◌, ℕ, ◌<◌, ◌≤◌, Bool, true, false, not, ◌&&◌, ◌==◌, if◌then◌else◌, List, [], ◌∷◌, ◌++◌, map, Option, Some, None}
 use Rattle.std.specs.List.{slice_get, fold}
 use Rattle.wb_gate.specs.declared.gates.Lit.{Lit}
 use Rattle.wb_derive.specs.declared.steps.Step.{Step}

@@ -12,6 +12,8 @@ mod laws;
 mod rising;
 mod scratch;
 mod steps;
+#[cfg(test)]
+mod tests;
 mod verdicts;
 
 pub use checks::check;

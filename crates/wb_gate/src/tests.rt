@@ -1,5 +1,5 @@
 //! The clauses of every gate, written out by hand and held against truth tables.
-use crate::{GateClause, Formula, Gate, GateFault, Goal, Lit};
+use crate::{Formula, Gate, GateClause, GateFault, Goal, Lit};
 use std::process::Abort;
 use std::test::Fail;
 
