@@ -1,0 +1,14 @@
+pub mod Partials
+pub mod Confluence
+pub mod Orders
+pub mod Lists
+pub mod Units
+pub mod Fresh
+pub mod Few
+pub mod Outcomes
+pub mod Stable
+pub mod Standings
+pub mod Underway
+pub mod Findings
+pub mod Turning
+pub mod Searching
