@@ -1,0 +1,10 @@
+//! From terms to gates: the bits of a term graph as literals of a formula.
+//!
+//! `count_gates` tells how many gates a bit may need. `children` has the numbers below a node and how heavy it is,
+//! `number` the walk over all nodes under some bits. `specs/Number.antt` has the gate number.
+#![tactic(auto)]
+
+mod children;
+mod number;
+
+pub use number::count_gates;
