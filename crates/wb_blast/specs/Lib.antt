@@ -1,2 +1,4 @@
+pub mod Entries
 pub mod Number
 pub mod Walk
+pub mod Words

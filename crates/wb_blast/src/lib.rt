@@ -5,6 +5,10 @@
 #![tactic(auto)]
 
 mod children;
+mod entries;
 mod number;
+mod words;
 
+pub use entries::{Entry, and, majority, mux, negation, or, xor};
 pub use number::count_gates;
+pub use words::{Word, add_words};
