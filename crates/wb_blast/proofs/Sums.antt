@@ -1,16 +1,16 @@
 -- Numbers of entries, and the sum of two of them.
-use Rattle.std.proofs.Common.{◌≡◌, ℕ, suc, ◌+◌, ◌*◌, ◌^◌, ◌<◌, ◌≤◌, Bool, true, false, ◌&&◌, ◌||◌, nat_lt, List, [], ◌∷◌, ◌++◌, length, take, get_or, set, refl, sym, ◌∙◌, ap, ap₂, subst, inl, inr, arith, get_or-set_other, get_or-set_same}
+use Rattle.std.proofs.Common.{◌≡◌, ℕ, suc, ◌+◌, ◌*◌, ◌^◌, ◌<◌, ◌≤◌, Bool, true, false, not, ◌-◌, ◌==◌, ◌&&◌, ◌||◌, nat_lt, List, [], ◌∷◌, ◌++◌, length, take, get_or, set, refl, sym, ◌∙◌, ap, ap₂, subst, inl, inr, arith, get_or-set_other, get_or-set_same}
 use Rattle.std.proofs.Math.Nat.{pow-suc}
-use Rattle.std.proofs.lemmas.Bool.{cases_eq}
+use Rattle.std.proofs.lemmas.Bool.{cases_eq, cases_lt, lt-ltb, le-ltb}
 use Rattle.std.proofs.lemmas.List.{take_more, take_more_set, length-take, take_all}
 use Rattle.wb_gate.specs.Circuit.{Circuit, Assignment, variables, xor, Obeys}
 use Rattle.wb_gate.specs.Growth.{Extends}
-use Rattle.wb_term.specs.Numbers.{bit, cut}
+use Rattle.wb_term.specs.Numbers.{bit, cut, less}
 use Rattle.wb_blast.specs.declared.entries.Entry.{Entry}
 use Rattle.wb_blast.specs.declared.entries.Entry.TheVariants.{T, F}
 use Rattle.wb_blast.specs.declared.entries.Entry.TheVariants as entry
 use Rattle.wb_blast.specs.Entries.{entry_value, EntryBelow, IsEntry}
-use Rattle.wb_blast.specs.Words.{number, entry_at, AreBelow, IsNumber, IsSumOf, Added}
+use Rattle.wb_blast.specs.Words.{number, entry_at, AreBelow, IsNumber, IsSumOf, Added, Carried, Differing}
 
 pub below_kept : (old new : Circuit) (room : ℕ) (e : Entry) → Extends old new room → EntryBelow (variables old) e → EntryBelow (variables new) e
 below_kept old new room T ext h = tt
@@ -127,3 +127,95 @@ added_carry old new x y c sum carry in_x in_y in_sum added = record {
   there = added.carry_there;
   value = λ v o. carried (entry_value v carry) (number v sum) _ (number_small v sum in_sum) (added_all old new x y c sum carry in_x in_y in_sum added v o);
 }
+
+-- the carry alone
+low_next : (low P Q : ℕ) (b : Bool) → low < P → Q ≡ P * 2 → low + bit b * P < Q
+low_next low P Q true h q = rw q (grind (arith, h))
+low_next low P Q false h q = rw q (grind (arith, h))
+
+pub carried_more : (old mid new : Circuit) (x y : List Entry) (c carry next : Entry) (at : ℕ) → at < length x → at < length y →
+    Carried old mid x y c carry at → Extends mid new 1 →
+    IsEntry new next (λ v. (entry_value v (entry_at x at) && entry_value v (entry_at y at)) || (entry_value v (entry_at x at) && entry_value v carry) || (entry_value v (entry_at y at) && entry_value v carry)) →
+    Carried old new x y c next (at + 1)
+carried_more old mid new x y c carry next at in_x in_y so_far ext is = record {
+  extends = extends_more old mid new at 1 (at + 1) (omega arith) so_far.extends ext;
+  there = is.there;
+  value = λ v o.
+      let before = so_far.value v (ext.obeys v o) in
+      let a = entry_value v (entry_at x at) in
+      let b = entry_value v (entry_at y at) in
+      let held = entry_value v carry in
+      let here = xor (xor a b) held in (
+        before.0 + bit here * 2 ^ at,
+        low_next before.0 (2 ^ at) (2 ^ (at + 1)) here before.1 (pow_next at),
+        added_step before.0 (bit here) (bit (entry_value v next)) (2 ^ at) (number v (take at x)) (number v (take at y))
+            (bit (entry_value v c)) (bit held) (bit a) (bit b) (2 ^ (at + 1)) before.2
+            (ap (λ h. bit here + 2 * bit h) (is.value v o) ∙ full_adder a b held) (pow_next at)
+            ∙ ap₂ (λ m n. m + n + bit (entry_value v c)) (sym (number_taken v x at in_x)) (sym (number_taken v y at in_y)),
+      );
+}
+
+-- a difference is the sum of the first and the inverted second
+bit_not : (b : Bool) → bit b + bit (not b) ≡ 1
+bit_not true = refl
+bit_not false = refl
+
+inverted_sum : (x y i : ℕ) (c d : Bool) → y < 65536 → i ≡ 65535 - y → d ≡ not c → x + i + bit d ≡ x + 65536 - (y + bit c)
+inverted_sum x y i c d small e f =
+    let one = bit_not c in
+    let same : bit d ≡ bit (not c) = ap bit f in
+    omega (arith, small, e, one, same)
+
+pub subtracted : (v : Assignment) (x y i : List Entry) (c d : Entry) → length y ≡ 16 → number v i ≡ 65535 - number v y → entry_value v d ≡ not (entry_value v c) →
+    cut (number v x + number v i + bit (entry_value v d)) ≡ less (number v x) (number v y + bit (entry_value v c))
+subtracted v x y i c d in_y e f = ap cut (inverted_sum (number v x) (number v y) (number v i) (entry_value v c) (entry_value v d) (number_small v y in_y) e f)
+
+pub borrowed : (v : Assignment) (x y i : List Entry) (c d : Entry) → length y ≡ 16 → number v i ≡ 65535 - number v y → entry_value v d ≡ not (entry_value v c) →
+    not (nat_lt 65535 (number v x + number v i + bit (entry_value v d))) ≡ nat_lt (number v x) (number v y + bit (entry_value v c))
+borrowed v x y i c d in_y e f =
+    let small = number_small v y in_y in
+    let few = bit_few (entry_value v c) in
+    let same = inverted_sum (number v x) (number v y) (number v i) (entry_value v c) (entry_value v d) small e f in
+    elim (cases_lt (number v x) (number v y + bit (entry_value v c))) [
+      | inl h ↦ ap not (le-ltb _ _ (omega (arith, h, same, small, few))) ∙ sym (lt-ltb _ _ h)
+      | inr h ↦ ap not (lt-ltb _ _ (omega (arith, h, same, small, few))) ∙ sym (le-ltb _ _ h)
+    ]
+
+-- equal words
+same_next : (m n P : ℕ) (a b d : Bool) → m < P → n < P → (m == n) ≡ not d → ((m + bit a * P) == (n + bit b * P)) ≡ not (d || xor a b)
+same_next m n P true true d h k e = grind (arith, e)
+same_next m n P true false d h k e = grind (arith, e, h, k)
+same_next m n P false true d h k e = grind (arith, e, h, k)
+same_next m n P false false d h k e = grind (arith, e)
+
+taken_lt : (v : Assignment) (es : List Entry) (at : ℕ) → at < length es → number v (take at es) < 2 ^ at
+taken_lt v es at h =
+    let short : length (take at es) ≡ at = grind (arith, length-take) in
+    subst (λ n. number v (take at es) < 2 ^ n) short (number_lt v (take at es))
+
+pub differing_more : (old mid next new : Circuit) (x y : List Entry) (differs here so_far : Entry) (at : ℕ) → at < length x → at < length y →
+    Differing old mid x y differs at → Extends mid next 1 → Extends next new 1 →
+    IsEntry next here (λ v. xor (entry_value v (entry_at x at)) (entry_value v (entry_at y at))) →
+    IsEntry new so_far (λ v. entry_value v differs || entry_value v here) → Differing old new x y so_far (at + 1)
+differing_more old mid next new x y differs here so_far at in_x in_y before one two is all = record {
+  extends = extends_more old next new (2 * at + 1) 1 (2 * (at + 1)) (omega arith)
+      (extends_more old mid next (2 * at) 1 (2 * at + 1) (omega arith) before.extends one) two;
+  there = all.there;
+  value = λ v o.
+      let then = two.obeys v o in
+      ap₂ (λ m n. m == n) (number_taken v x at in_x) (number_taken v y at in_y)
+      ∙ same_next (number v (take at x)) (number v (take at y)) (2 ^ at) (entry_value v (entry_at x at)) (entry_value v (entry_at y at)) (entry_value v differs)
+      (taken_lt v x at in_x) (taken_lt v y at in_y) (before.value v (one.obeys v then))
+      ∙ ap (λ b. not (entry_value v differs || b)) (sym (is.value v then))
+      ∙ ap not (sym (all.value v o));
+}
+
+pub differing_all : (old new : Circuit) (x y : List Entry) (differs result : Entry) → length x ≡ 16 → length y ≡ 16 → Differing old new x y differs 16 →
+    ((v : Assignment) → entry_value v result ≡ not (entry_value v differs)) → ((n : ℕ) → EntryBelow n differs → EntryBelow n result) →
+    IsEntry new result (λ v. number v x == number v y)
+differing_all old new x y differs result in_x in_y is inverse there =
+    let whole : (v : Assignment) (es : List Entry) → length es ≡ 16 → number v (take 16 es) ≡ number v es = λ v es h. ap (number v) (take_all 16 es (omega (arith, h))) in
+    record {
+      there = there _ is.there;
+      value = λ v o. inverse v ∙ sym (is.value v o) ∙ ap₂ (λ m n. m == n) (whole v x in_x) (whole v y in_y);
+    }

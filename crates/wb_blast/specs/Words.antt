@@ -1,5 +1,5 @@
 -- Words of entries, the lowest bit first, and the numbers that they stand for.
-use Rattle.std.specs.Prelude.{◌≡◌, ℕ, ◌+◌, ◌*◌, ◌^◌, List, [], ◌∷◌, take, slice_index_or}
+use Rattle.std.specs.Prelude.{◌≡◌, ℕ, ◌+◌, ◌*◌, ◌^◌, ◌<◌, ◌==◌, not, List, [], ◌∷◌, take, slice_index_or}
 use Rattle.wb_gate.specs.Circuit.{Circuit, Assignment, variables, Obeys}
 use Rattle.wb_gate.specs.Growth.{Extends}
 use Rattle.wb_term.specs.Numbers.{bit}
@@ -38,3 +38,16 @@ pub record Added (old new : Circuit) (x y : List Entry) (c : Entry) (sum : List 
   pub carry_there : EntryBelow (variables new) carry
   pub value : (v : Assignment) → Obeys v new →
       number v (take at sum) + bit (entry_value v carry) * 2 ^ at ≡ number v (take at x) + number v (take at y) + bit (entry_value v c)
+
+-- the carry of the lowest entries of two words and a carry
+pub record Carried (old new : Circuit) (x y : List Entry) (c carry : Entry) (at : ℕ) : Type 0 where
+  pub extends : Extends old new at
+  pub there : EntryBelow (variables new) carry
+  pub value : (v : Assignment) → Obeys v new →
+      (low : ℕ) × (low < 2 ^ at) × (low + bit (entry_value v carry) * 2 ^ at ≡ number v (take at x) + number v (take at y) + bit (entry_value v c))
+
+-- the entry is true where some of the lowest entries of two words differ
+pub record Differing (old new : Circuit) (x y : List Entry) (differs : Entry) (at : ℕ) : Type 0 where
+  pub extends : Extends old new (2 * at)
+  pub there : EntryBelow (variables new) differs
+  pub value : (v : Assignment) → Obeys v new → (number v (take at x) == number v (take at y)) ≡ not (entry_value v differs)

@@ -4,11 +4,13 @@
 //! `number` the walk over all nodes under some bits. `specs/Number.antt` has the gate number.
 #![tactic(auto)]
 
+mod bitwise;
 mod children;
 mod entries;
 mod number;
 mod words;
 
+pub use bitwise::{Operation, combine_words, inverted};
 pub use entries::{Entry, and, majority, mux, negation, or, xor};
 pub use number::count_gates;
-pub use words::{Word, add_words};
+pub use words::{Word, add_words, borrow_of, carry_of, same_words, subtract_words};
