@@ -75,3 +75,23 @@ pub fn inverted(x: &Word) -> Word
     }
     done
 }
+
+/// The word of a number, each bit a constant.
+pub fn constant_word(word: u16) -> Word
+    ensures value { (v : Assignment) → number v result ≡ word }
+    ensures there { (n : ℕ) → AreBelow n result }
+{
+    let mut done = [Entry::F; 16];
+    for at in 0..16 {
+        done[at] = constant((word >> at) & 1 == 1);
+    }
+    done
+}
+
+/// The entry of a known bit.
+pub fn constant(bit: bool) -> Entry
+    ensures value { (v : Assignment) → entry_value v result ≡ bit }
+    ensures there { (n : ℕ) → EntryBelow n result }
+{
+    if bit { Entry::T } else { Entry::F }
+}

@@ -10,7 +10,7 @@ mod entries;
 mod number;
 mod words;
 
-pub use bitwise::{Operation, combine_words, inverted};
+pub use bitwise::{Operation, combine_words, constant, constant_word, inverted};
 pub use entries::{Entry, and, majority, mux, negation, or, xor};
 pub use number::count_gates;
 pub use words::{Word, add_words, borrow_of, carry_of, same_words, subtract_words};
