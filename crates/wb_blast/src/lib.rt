@@ -1,13 +1,18 @@
 //! From terms to gates: the bits of a term graph as literals of a formula.
 //!
-//! `count_gates` tells how many gates a bit may need. `children` has the numbers below a node and how heavy it is,
-//! `number` the walk over all nodes under some bits. `specs/Number.antt` has the gate number.
+//! `count_gates` tells how many gates a bit may need, and the circuits make them: an `Entry` is what one bit is in a
+//! formula, a `Word` what sixteen are, the lowest first. `children` has the numbers below a node and its weight,
+//! `number` the walk over all nodes under some bits, `entries` the gates over bits, `bitwise` the circuits that work
+//! bit by bit on words, `words` those that add, subtract and compare. `specs/Number.antt` has the gate number,
+//! `specs/Words.antt` the number that a word stands for.
 #![tactic(auto)]
 
 mod bitwise;
 mod children;
 mod entries;
 mod number;
+#[cfg(test)]
+mod tests;
 mod words;
 
 pub use bitwise::{Operation, combine_words, constant, constant_word, inverted};
