@@ -1,4 +1,5 @@
 pub mod Meanings
+pub mod Moves
 pub mod Bits
 pub mod Lists
 pub mod Sums

@@ -3,7 +3,7 @@
 //! `count_gates` tells how many gates a bit may need, and the circuits make them: an `Entry` is what one bit is in a
 //! formula, a `Word` what sixteen are, the lowest first. `children` has the numbers below a node and its weight,
 //! `number` the walk over all nodes under some bits, `entries` the gates over bits, `bitwise` the circuits that work
-//! bit by bit on words, `words` those that add, subtract and compare. `specs/Number.antt` has the gate number,
+//! bit by bit on words, `shifts` what moves the bits, `words` those that add, subtract and compare. `specs/Number.antt` has the gate number,
 //! `specs/Words.antt` the number that a word stands for.
 #![tactic(auto)]
 
@@ -11,6 +11,7 @@ mod bitwise;
 mod children;
 mod entries;
 mod number;
+mod shifts;
 #[cfg(test)]
 mod tests;
 mod words;
@@ -18,4 +19,5 @@ mod words;
 pub use bitwise::{Operation, combine_words, constant, constant_word, inverted};
 pub use entries::{Entry, and, majority, mux, negation, or, xor};
 pub use number::count_gates;
+pub use shifts::{shifted_left, shifted_right};
 pub use words::{Word, add_words, borrow_of, carry_of, same_words, subtract_words};
