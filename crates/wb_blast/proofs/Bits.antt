@@ -134,17 +134,18 @@ inverted_more v x done e at within is each = below_more _ at
     (λ k h. let ne : k ≢ at = omega (arith, h) in ap (entry_value v) (get_or-set_other done at k e T ne) ∙ each k h)
     (ap (entry_value v) (get_or-set_same done at e T within) ∙ is)
 
+pub bit_of_bit : (b : ℕ) → b < 2 → bit (b == 1) ≡ b
+bit_of_bit zero h = refl
+bit_of_bit (suc zero) h = refl
+bit_of_bit (suc (suc b)) h = absurd (omega (arith, h))
+
 -- the bits of a known number
 pub known_number : (v : Assignment) (es : List Entry) (n : ℕ) → length es ≡ 16 → n < 65536 →
     ((k : ℕ) → k < 16 → entry_value v (entry_at es k) ≡ (bit_at n k == 1)) → number v es ≡ n
 known_number v es n in_es small each = same_from_bits (number v es) n (λ i. elim (cases_lt i 16) [
   | inl h ↦ number_bit v es i (omega (arith, h, in_es)) ∙ ap bit (each i h) ∙ bit_of_bit (bit_at n i) (bit_at-lt n i)
   | inr h ↦ number_above v es i (omega (arith, h, in_es)) ∙ sym (bit_at_above n 16 i small h)
-]) where
-  bit_of_bit : (b : ℕ) → b < 2 → bit (b == 1) ≡ b
-  bit_of_bit zero h = refl
-  bit_of_bit (suc zero) h = refl
-  bit_of_bit (suc (suc b)) h = absurd (omega (arith, h))
+])
 
 pub known_more : (v : Assignment) (done : List Entry) (n : ℕ) (e : Entry) (at : ℕ) → at < length done → entry_value v e ≡ (bit_at n at == 1) →
     ((k : ℕ) → k < at → entry_value v (entry_at done k) ≡ (bit_at n k == 1)) → (k : ℕ) → k < at + 1 → entry_value v (entry_at (set done at e) k) ≡ (bit_at n k == 1)

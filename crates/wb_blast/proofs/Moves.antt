@@ -1,9 +1,9 @@
 -- What moving the entries of a word does to its number.
-use Rattle.std.proofs.Common.{◌≡◌, ◌≢◌, ℕ, ◌+◌, ◌-◌, ◌*◌, ◌/◌, ◌%◌, ◌^◌, ◌<◌, ◌≤◌, List, length, set, sym, ◌∙◌, ap, subst, inl, inr, arith, get_or-set_other, get_or-set_same, below_more}
-use Rattle.std.proofs.Math.Nat.{div-div-eq-div-mul, div-le_self, add_comm}
+use Rattle.std.proofs.Common.{Bool, ◌==◌, ◌≡◌, ◌≢◌, ℕ, ◌+◌, ◌-◌, ◌*◌, ◌/◌, ◌%◌, ◌^◌, ◌<◌, ◌≤◌, List, length, set, sym, ◌∙◌, ap, subst, inl, inr, arith, get_or-set_other, get_or-set_same, below_more}
+use Rattle.std.proofs.Math.Nat.{div-div-eq-div-mul, div-le_self, add_comm, pow-le-pow_right}
 use Rattle.std.proofs.lemmas.Bool.{cases_lt}
 use Rattle.std.proofs.lemmas.Nat.{pow-add, pow_pos}
-use Rattle.std.proofs.lemmas.Nat.Bits.{bit_at_above, bit_at-zero, bit_at_cat_low, bit_at_cat_high, same_from_bits}
+use Rattle.std.proofs.lemmas.Nat.Bits.{bit_at-lt, bit_at_above, bit_at-zero, bit_at_cat_low, bit_at_cat_high, same_from_bits}
 use Rattle.std.specs.Int.{bit_at}
 use Rattle.wb_gate.specs.Circuit.{Assignment}
 use Rattle.wb_term.specs.Numbers.{bit, cut}
@@ -11,7 +11,7 @@ use Rattle.wb_blast.specs.declared.entries.Entry.{Entry}
 use Rattle.wb_blast.specs.declared.entries.Entry.TheVariants.{T}
 use Rattle.wb_blast.specs.Entries.{entry_value}
 use Rattle.wb_blast.specs.Words.{number, entry_at}
-use Rattle.wb_blast.proofs.Bits.{number_bit, number_above}
+use Rattle.wb_blast.proofs.Bits.{number_bit, number_above, bit_of_bit}
 use Rattle.wb_blast.proofs.Sums.{number_lt}
 
 -- a number below 65536 is what its bits say
@@ -65,3 +65,12 @@ right_low v es m k in_es h = sym (halves (number v es) m k ∙ number_bit v es (
 
 pub right_high : (v : Assignment) (es : List Entry) (m k : ℕ) → length es ≡ 16 → 16 ≤ k + m → 0 ≡ bit_at (number v es / 2 ^ m) k
 right_high v es m k in_es h = sym (halves (number v es) m k ∙ number_above v es (k + m) (omega (arith, in_es, h)))
+
+-- a word of few bits is small
+pub word_small : (word count : ℕ) → count ≤ 16 → word < 2 ^ count → word < 65536
+word_small word count few small =
+    let more : 2 ^ count ≤ 2 ^ 16 = pow-le-pow_right {n = 2} (omega arith) few in
+    omega (arith, small, more)
+
+pub given_bit : (word k : ℕ) (b : Bool) → b ≡ (bit_at word k == 1) → bit b ≡ bit_at word k
+given_bit word k b e = ap bit e ∙ bit_of_bit (bit_at word k) (bit_at-lt word k)
