@@ -2,9 +2,10 @@
 //!
 //! `count_gates` tells how many gates a bit may need, and the circuits make them: an `Entry` is what one bit is in a
 //! formula, a `Word` what sixteen are, the lowest first. `children` has the numbers below a node and its weight,
-//! `number` the walk over all nodes under some bits, `inputs` the words of input variables, `entries` the gates over bits, `bitwise` the circuits that work
-//! bit by bit on words, `shifts` what moves the bits, `words` those that add, subtract and compare. `specs/Number.antt` has the gate number,
-//! `specs/Words.antt` the number that a word stands for.
+//! `number` the walk over all nodes under some bits, `inputs` the words of input variables, `entries` the gates over
+//! bits, `bitwise` the circuits that work bit by bit on words, `shifts` what moves the bits, and `words` the circuits
+//! that add, subtract and compare. `specs/Number.antt` has the gate number, `specs/Words.antt` the number that a word
+//! stands for.
 #![tactic(auto)]
 
 mod bitwise;
