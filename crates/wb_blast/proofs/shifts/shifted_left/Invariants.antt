@@ -1,0 +1,14 @@
+use Rattle.std.proofs.Common.{◌≡◌, ℕ, ◌<◌, ◌*◌, ◌^◌, length}
+use Rattle.std.specs.Int.{bit_at}
+use Rattle.wb_gate.specs.Circuit.{Assignment}
+use Rattle.wb_term.specs.Numbers.{bit, cut}
+use Rattle.wb_blast.specs.Entries.{entry_value}
+use Rattle.wb_blast.specs.Words.{number, entry_at, AreBelow}
+use Rattle.wb_blast.proofs.shifts.shifted_left.Given as goal
+
+abbrev pub invariant-loop-at : goal.invariant-loop-at
+invariant-loop-at l = record {
+  full : length l.done ≡ 16;
+  there : (n : ℕ) → AreBelow n l.x → AreBelow n l.done;
+  value : (v : Assignment) (k : ℕ) → k < l.at → bit (entry_value v (entry_at l.done k)) ≡ bit_at (cut (number v l.x * 2 ^ l.count)) k;
+}

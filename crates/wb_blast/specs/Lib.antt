@@ -1,0 +1,5 @@
+pub mod Entries
+pub mod Number
+pub mod Operations
+pub mod Walk
+pub mod Words
