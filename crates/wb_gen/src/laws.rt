@@ -1,0 +1,22 @@
+//! What is true of the demo pair of every body.
+ghost use Rattle.wb_gen.specs.Laws.{NumbersHaveBodies, PairsReachFewPoints, PairsKeepGoing, PairsSayTheSame};
+
+/// The body of every number is a body: 64 words that compute and move, and touch nothing else.
+pub fn numbers_have_bodies()
+    ensures { NumbersHaveBodies }
+{}
+
+/// At most 283 points are reached on the first side, and at most 411 on the second.
+pub fn pairs_reach_few_points()
+    ensures { PairsReachFewPoints }
+{}
+
+/// No held run breaches or overruns.
+pub fn pairs_keep_going()
+    ensures { PairsKeepGoing }
+{}
+
+/// No dialogue differs.
+pub fn pairs_say_the_same()
+    ensures { PairsSayTheSame }
+{}
