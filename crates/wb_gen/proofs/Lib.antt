@@ -1,2 +1,3 @@
+pub mod BodyKinds
 pub mod BodyWords
 pub mod Writing

@@ -2,7 +2,7 @@
 use Rattle.std.specs.Prelude.{◌≡◌, ℕ, zero, suc, ◌+◌, ◌-◌, ◌*◌, ◌/◌, ◌%◌, ◌^◌, Bool, true, false, List, [], ◌∷◌, ◌++◌, map, length, get_or, replicate, All, Contains}
 use Rattle.std.specs.List.{range_with_len}
 use Rattle.wb_word.specs.Codes.{p_code, src_code, dst_code}
-use Rattle.wb_word.specs.Encoding.{number}
+use Rattle.wb_word.specs.Encoding.{instr_of}
 use Rattle.wb_word.specs.declared.codes.Dpl.TheVariants as dpl
 use Rattle.wb_word.specs.declared.codes.Dst.{Dst}
 use Rattle.wb_word.specs.declared.codes.Dst.TheVariants as dst
@@ -71,7 +71,7 @@ pub record IsPairOf (body : List ℕ) (a b : Image) : Type 0 where
 -- a word that computes with the bus, changes no pointer, and moves between the sources and targets of bodies
 pub record IsBodyWord (word : ℕ) : Type 0 where
   pub op : OpWord
-  pub encoded : word ≡ number (Op op)
+  pub decoded : instr_of word ≡ Op op
   pub operand : op.p ≡ p.Idb
   pub low : op.dpl ≡ dpl.DpNop
   pub high : op.dphm.value ≡ 0

@@ -1,10 +1,14 @@
 //! What is true of the demo pair of every body.
 ghost use Rattle.wb_gen.specs.Laws.{NumbersHaveBodies, PairsReachFewPoints, PairsKeepGoing, PairsSayTheSame};
 
+use wb_word::coding_laws;
+
 /// The body of every number is a body: 64 words that compute and move, and touch nothing else.
 pub fn numbers_have_bodies()
     ensures { NumbersHaveBodies }
-{}
+{
+    coding_laws();
+}
 
 /// At most 283 points are reached on the first side, and at most 411 on the second.
 pub fn pairs_reach_few_points()
