@@ -1,3 +1,7 @@
 pub mod BodyKinds
 pub mod BodyWords
+pub mod Circle
+pub mod Programs
+pub mod Keeping
+pub mod Words
 pub mod Writing

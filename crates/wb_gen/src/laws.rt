@@ -1,6 +1,8 @@
 //! What is true of the demo pair of every body.
 ghost use Rattle.wb_gen.specs.Laws.{NumbersHaveBodies, PairsReachFewPoints, PairsKeepGoing, PairsSayTheSame};
 
+use wb_law::held_runs_stop_before_or_after;
+use wb_port::{calm_words_keep_the_port, raising_words_touch};
 use wb_word::coding_laws;
 
 /// The body of every number is a body: 64 words that compute and move, and touch nothing else.
@@ -18,7 +20,11 @@ pub fn pairs_reach_few_points()
 /// No held run breaches or overruns.
 pub fn pairs_keep_going()
     ensures { PairsKeepGoing }
-{}
+{
+    calm_words_keep_the_port();
+    raising_words_touch();
+    held_runs_stop_before_or_after();
+}
 
 /// No dialogue differs.
 pub fn pairs_say_the_same()
