@@ -1,8 +1,11 @@
 //! What is true of the demo pair of every body.
 ghost use Rattle.wb_gen.specs.Laws.{NumbersHaveBodies, PairsReachFewPoints, PairsKeepGoing, PairsSayTheSame};
 
-use wb_law::held_runs_stop_before_or_after;
-use wb_port::{calm_words_keep_the_port, raising_words_touch};
+use wb_law::{
+    bounds_of_sides_add_up, held_runs_stop_before_or_after, lists_bound_points_of_a_side,
+    points_are_passed_after_accesses,
+};
+use wb_port::{calm_words_keep_the_port, fronts_fit, raising_words_touch};
 use wb_word::coding_laws;
 
 /// The body of every number is a body: 64 words that compute and move, and touch nothing else.
@@ -15,7 +18,14 @@ pub fn numbers_have_bodies()
 /// At most 283 points are reached on the first side, and at most 411 on the second.
 pub fn pairs_reach_few_points()
     ensures { PairsReachFewPoints }
-{}
+{
+    calm_words_keep_the_port();
+    raising_words_touch();
+    fronts_fit();
+    points_are_passed_after_accesses();
+    lists_bound_points_of_a_side();
+    bounds_of_sides_add_up();
+}
 
 /// No held run breaches or overruns.
 pub fn pairs_keep_going()
