@@ -124,9 +124,14 @@ unasked_asks image pc sr count pc_next sr_next c h raises part =
     let r : raises_request (word_at image c) ≡ true = ap (λ (x : ℕ). raises_request (word_of image x)) h.part.pc_is ∙ raises in
     record { part = part; count_is = simp (a, r); asked_is = simp r }
 
+pub powered_stands : (start : List ℕ) → Stands 0 0 0 false (powered start)
+unfolding power
+powered_stands start =
+    record { part = record { pc_is = refl; sr_is = refl; sp_is = refl; stack_is = refl }; count_is = refl; asked_is = refl }
+
 module _ (keeps : CalmWordsKeepThePort) (raising : RaisingWordsTouch) (image : Image) (k calm : ℕ) (p : IsServing image k calm) where
   -- a chip that waits no more leaves the poll
-  served_free : (c : Chip) → At calm Served c → IsFree image k c
+  pub served_free : (c : Chip) → At calm Served c → IsFree image k c
   unfolding is_breach
   served_free c h =
       let n = h.count_is in
@@ -139,7 +144,7 @@ module _ (keeps : CalmWordsKeepThePort) (raising : RaisingWordsTouch) (image : I
         runs = runs_by image k c (omega arith) (simp (h.asked_is, poll, touch));
       }
 
-  served_goes : (c : Chip) → At calm Served c → At calm (Going 0) (stepped image c)
+  pub served_goes : (c : Chip) → At calm Served c → At calm (Going 0) (stepped image c)
   unfolding stepped observed is_idle is_leaving
   served_goes c h =
       let a = h.asked_is in
@@ -167,72 +172,62 @@ module _ (keeps : CalmWordsKeepThePort) (raising : RaisingWordsTouch) (image : I
       let q : IsPart (3 + suc i + 1) 1024 (next image s) = calm_parts keeps image s (3 + suc i) (omega arith) w h in
       (subst (λ (x : ℕ). IsPart x 1024 (next image s)) (let e : 3 + suc i + 1 ≡ 3 + suc (suc i) = omega arith in e) q, calm_raises (word_of image (3 + suc i)) w)
 
+  pub going_free : (j : ℕ) (c : Chip) → j ≤ calm + 1 → At calm (Going j) c → IsFree image k c
+  going_free j c most h = let l = p.paced in unasked_free image k (3 + j) 1024 (1 + j) c h refl (omega arith)
+
+  pub going_on : (j : ℕ) (c : Chip) → j ≤ calm → At calm (Going j) c → At calm (Going (suc j)) (stepped image c)
+  going_on j c within h =
+      let q = going_parts j c.machine within h.part in
+      subst (λ (x : ℕ). Stands (3 + suc j) 1024 x false (stepped image c)) (let n : 1 + j + 1 ≡ 1 + suc j = omega arith in n)
+      (unasked_goes image (3 + j) 1024 (1 + j) (3 + suc j) 1024 c h q.1 q.0)
+
+  pub going_turns : (j : ℕ) (c : Chip) → j ≡ calm + 1 → At calm (Going j) c → At calm Back (stepped image c)
+  going_turns j c e h =
+      let w : word_of image (3 + j) ≡ 0xA00004 = ap (word_of image) (let f : 3 + j ≡ 4 + calm = omega arith in f) ∙ p.turns in
+      subst (λ (x : ℕ). Stands 1 1024 x false (stepped image c)) (let n : 1 + j + 1 ≡ calm + 3 = omega arith in n)
+      (unasked_goes image (3 + j) 1024 (1 + j) 1 1024 c h (ap raises_request w ∙ turning_raises) (turning_parts image c.machine (3 + j) w h.part))
+
   going_goes : (j : ℕ) (c : Chip) → j ≤ calm + 1 → At calm (Going j) c → IsFree image k c × IsIn calm After (stepped image c)
-  going_goes j c most h =
-      let l = p.paced in
-      (unasked_free image k (3 + j) 1024 (1 + j) c h refl (omega arith), elim (cases_lt calm j) [ inl past ↦ turning past | inr within ↦ on within ])
+  going_goes j c most h = (going_free j c most h, elim (cases_lt calm j) [ inl past ↦ turning past | inr within ↦ on within ])
     where
       turning : calm < j → IsIn calm After (stepped image c)
-      turning past =
-          let e : j ≡ calm + 1 = omega arith in
-          let f : 3 + j ≡ 4 + calm = omega arith in
-          let w : word_of image (3 + j) ≡ 0xA00004 = ap (word_of image) f ∙ p.turns in
-          let n : 1 + j + 1 ≡ calm + 3 = omega arith in
-          record {
-            stage = Back;
-            has = tt;
-            at =
-                subst (λ (x : ℕ). Stands 1 1024 x false (stepped image c)) n
-                (unasked_goes image (3 + j) 1024 (1 + j) 1 1024 c h (ap raises_request w ∙ turning_raises) (turning_parts image c.machine (3 + j) w h.part));
-          }
+      turning past = record { stage = Back; has = tt; at = going_turns j c (omega arith) h }
 
       on : j ≤ calm → IsIn calm After (stepped image c)
-      on within =
-          let q = going_parts j c.machine within h.part in
-          let n : 1 + j + 1 ≡ 1 + suc j = omega arith in
-          record {
-            stage = Going (suc j);
-            has = omega arith;
-            at = subst (λ (x : ℕ). Stands (3 + suc j) 1024 x false (stepped image c)) n (unasked_goes image (3 + j) 1024 (1 + j) (3 + suc j) 1024 c h q.1 q.0);
-          }
+      on within = record { stage = Going (suc j); has = omega arith; at = going_on j c within h }
 
-  asking_rests : (held : Bool) (c : Chip) → At calm Asking c → rests image held c ≡ true
+  pub asking_rests : (held : Bool) (c : Chip) → At calm Asking c → rests image held c ≡ true
   asking_rests false c h = asks_by c 2 33792 0 true h
   asking_rests true c h =
       let poll : is_poll image (place c) ≡ true = ap (is_poll image) h.part.pc_is ∙ poll_at_two image p.waits in
       let q : rqm c.machine ≡ true = asks_by c 2 33792 0 true h in
       simp (q, poll)
 
-  asked_again : (g : Group) (c : Chip) (count : ℕ) → count < k → Stands 1 1024 count false c → IsFree image k c × IsIn calm g (stepped image c)
-  asked_again g c count less h = (
-    unasked_free image k 1 1024 count c h refl less,
-    record {
-      stage = Asking;
-      has = asking_has g;
-      at = unasked_asks image 1 1024 count 2 33792 c h (ap raises_request p.asks ∙ asking_raises) (asking_parts image c.machine p.asks h.part);
-    },
-  )
-    where
-      asking_has : (g : Group) → Has calm g Asking
-      asking_has Before = tt
-      asking_has After = tt
+  pub asked_free : (c : Chip) (count : ℕ) → count < k → Stands 1 1024 count false c → IsFree image k c
+  asked_free c count less h = unasked_free image k 1 1024 count c h refl less
+
+  pub asked_again : (c : Chip) (count : ℕ) → Stands 1 1024 count false c → At calm Asking (stepped image c)
+  asked_again c count h = unasked_asks image 1 1024 count 2 33792 c h (ap raises_request p.asks ∙ asking_raises) (asking_parts image c.machine p.asks h.part)
+
+  pub start_free : (c : Chip) → At calm Start c → IsFree image k c
+  start_free c h = let l = p.paced in unasked_free image k 0 0 0 c h refl (omega arith)
+
+  pub start_goes : (c : Chip) → At calm Start c → At calm First (stepped image c)
+  start_goes c h = unasked_goes image 0 0 0 1 1024 c h (ap raises_request p.sets ∙ setting_raises) (setting_parts image c.machine p.sets h.part)
 
   comes : (held : Bool) (g : Group) (c : Chip) → IsIn calm g c → Comes held g c
   comes held g c h = by_stage g h.stage h.has h.at
     where
       by_stage : (g : Group) (x : Stage) → Has calm g x → At calm x c → Comes held g c
-      by_stage Before Start has at =
-          let l = p.paced in
-          inr (
-            unasked_free image k 0 0 0 c at refl (omega arith),
-            record { stage = First; has = tt; at = unasked_goes image 0 0 0 1 1024 c at (ap raises_request p.sets ∙ setting_raises) (setting_parts image c.machine p.sets at.part) },
-          )
-      by_stage Before First has at = inr (asked_again Before c 1 (let l = p.paced in omega arith) at)
+      by_stage Before Start has at = inr (start_free c at, record { stage = First; has = tt; at = start_goes c at })
+      by_stage Before First has at =
+          inr (asked_free c 1 (let l = p.paced in omega arith) at, record { stage = Asking; has = tt; at = asked_again c 1 at })
       by_stage Before Asking has at = inl (asking_rests held c at)
       by_stage After Asking has at = inl (asking_rests held c at)
       by_stage After Served has at = inr (served_free c at, record { stage = Going 0; has = omega arith; at = served_goes c at })
       by_stage After (Going j) has at = inr (going_goes j c has at)
-      by_stage After Back has at = inr (asked_again After c (calm + 3) p.paced at)
+      by_stage After Back has at =
+          inr (asked_free c (calm + 3) p.paced at, record { stage = Asking; has = tt; at = asked_again c (calm + 3) at })
       by_stage Before Served has at = absurd has
       by_stage Before (Going j) has at = absurd has
       by_stage Before Back has at = absurd has
@@ -296,13 +291,7 @@ module _ (keeps : CalmWordsKeepThePort) (raising : RaisingWordsTouch) (image : I
   given_after a (b ∷ rest) g c d h t = given_after b rest After _ d (applied_in a t.0 (asking_found g c t.0 h t.1)) t.2
 
   pub powered_in : (start : List ℕ) → IsIn calm Before (powered start)
-  unfolding power
-  powered_in start =
-      record {
-        stage = Start;
-        has = tt;
-        at = record { part = record { pc_is = refl; sr_is = refl; sp_is = refl; stack_is = refl }; count_is = refl; asked_is = refl };
-      }
+  powered_in start = record { stage = Start; has = tt; at = powered_stands start }
 
   pub given_in : (accesses : List Access) (start : List ℕ) (d : Chip) → Given image k accesses (powered start) d → (g : Group) × IsIn calm g d
   given_in [] start d t = (Before, subst (IsIn calm Before) t (powered_in start))

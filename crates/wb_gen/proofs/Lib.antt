@@ -4,5 +4,8 @@ pub mod Circle
 pub mod Programs
 pub mod Keeping
 pub mod Reaching
+pub mod Placed
+pub mod Together
+pub mod Agreeing
 pub mod Words
 pub mod Writing

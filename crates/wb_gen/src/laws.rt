@@ -3,7 +3,7 @@ ghost use Rattle.wb_gen.specs.Laws.{NumbersHaveBodies, PairsReachFewPoints, Pair
 
 use wb_law::{
     bounds_of_sides_add_up, held_runs_stop_before_or_after, lists_bound_points_of_a_side,
-    points_are_passed_after_accesses,
+    points_are_passed_after_accesses, replies_decide, requests_decide,
 };
 use wb_port::{calm_words_keep_the_port, fronts_fit, raising_words_touch};
 use wb_word::coding_laws;
@@ -39,4 +39,10 @@ pub fn pairs_keep_going()
 /// No dialogue differs.
 pub fn pairs_say_the_same()
     ensures { PairsSayTheSame }
-{}
+{
+    calm_words_keep_the_port();
+    raising_words_touch();
+    held_runs_stop_before_or_after();
+    requests_decide();
+    replies_decide();
+}
