@@ -1,11 +1,10 @@
 -- No dialogue differs on a demo pair.
-use Rattle.std.proofs.Common.{◌≡◌, ℕ, ◌+◌, true, List, [], ◌∷◌, ◌++◌, length, get_or, refl, sym, ap, ◌∙◌, subst}
+use Rattle.std.proofs.Common.{◌≡◌, ℕ, true, List, [], ◌∷◌, ◌++◌, length, get_or, sym, ap, ◌∙◌}
 use Rattle.std.proofs.Math.Seq.{get_or-append_seam}
 use Rattle.wb_rom.specs.declared.images.Image.{Image}
 use Rattle.wb_port.specs.declared.accesses.Power.{Power}
 use Rattle.wb_port.specs.Facts.{CalmWordsKeepThePort, RaisingWordsTouch}
 use Rattle.wb_port.specs.Port.{access_reply}
-use Rattle.wb_port.specs.Verdicts.{Differs}
 use Rattle.wb_law.specs.Runs.{HeldRunsStopBeforeOrAfter}
 use Rattle.wb_law.specs.Schedules.{RepliesAlike, RequestsDecide, RepliesDecide}
 use Rattle.wb_gen.specs.Demo.{padded, IsBody, IsPairOf}
@@ -24,11 +23,11 @@ module _ (keeps : CalmWordsKeepThePort) (raising : RaisingWordsTouch) (stopping 
       let s = serving_pair body a b h p in
       requests a b 4 101 demo_shape power
       (λ start front x c d only fits r t.
-          ap (access_reply x)
-          (requests_alike keeps raising a b 101 65 97 s.first s.second (sym s.drom) body s.first_calm s.first_length s.second_length
-          (holds_from a 4 (circle body) (in_circle a body s.first_parts))
-          (holds_from b 4 (circle (padded true body)) (in_circle b (padded true body) s.second_parts))
-          start front c d only r t))
+      ap (access_reply x)
+      (requests_alike keeps raising a b 101 65 97 s.first s.second (sym s.drom) body s.first_calm s.first_length s.second_length
+      (holds_from a 4 (circle body) (in_circle a body s.first_parts))
+      (holds_from b 4 (circle (padded true body)) (in_circle b (padded true body) s.second_parts))
+      start front c d only r t))
 
   pub pairs_say_the_same : PairsSayTheSame
   pairs_say_the_same body a b power h p =

@@ -1,7 +1,4 @@
 -- No held run on a demo pair breaches or overruns.
-use Rattle.std.proofs.Common.{ℕ}
-use Rattle.wb_rom.specs.declared.images.Image.{Image}
-use Rattle.wb_port.specs.declared.accesses.Power.{Power}
 use Rattle.wb_port.specs.declared.runs.Run.TheVariants.{Breach, Overrun}
 use Rattle.wb_port.specs.Facts.{CalmWordsKeepThePort, RaisingWordsTouch}
 use Rattle.wb_law.specs.Runs.{HeldRunsStopBeforeOrAfter}

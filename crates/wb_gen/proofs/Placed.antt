@@ -5,18 +5,16 @@ use Rattle.std.specs.Int.Bits.{xor_zero_r}
 use Rattle.wb_word.specs.Encoding.{instr_of}
 use Rattle.wb_word.specs.declared.codes.Acc.{Acc}
 use Rattle.wb_word.specs.declared.codes.Acc.TheVariants as acc
-use Rattle.wb_word.specs.declared.codes.Dpl.TheVariants as dpl
 use Rattle.wb_word.specs.declared.codes.P.{P}
 use Rattle.wb_word.specs.declared.codes.P.TheVariants as p
 use Rattle.wb_word.specs.declared.codes.Src.{Src}
 use Rattle.wb_word.specs.declared.codes.Src.TheVariants as src
 use Rattle.wb_word.specs.declared.words.OpWord.{OpWord}
-use Rattle.wb_word.specs.declared.words.Instr.{Instr}
-use Rattle.wb_word.specs.declared.words.Instr.TheVariants.{Op, Ld}
+use Rattle.wb_word.specs.declared.words.Instr.TheVariants.{Op}
 use Rattle.wb_rom.specs.declared.images.Image.{Image}
 use Rattle.wb_machine.specs.State.{State}
 use Rattle.wb_machine.specs.State.{rqm as is_request}
-use Rattle.wb_machine.specs.Next.{bus_of, carried, operand, other, accumulator, flags_of, computed, computed_flags, worked_on, worked, worked_flags, dp_stepped, taken, following, pc_after, sp_after, rp_after, dp_after, a_after, b_after, tr_after, trb_after, k_after, l_after, dr_after, sr_after, so_after, flags_a_after, flags_b_after, ram_after, stack_after, regs_after, next_by, next}
+use Rattle.wb_machine.specs.Next.{bus_of, carried, operand, other, accumulator, flags_of, computed, computed_flags, worked, worked_flags, dp_stepped, taken, following, pc_after, sp_after, rp_after, dp_after, a_after, b_after, tr_after, trb_after, k_after, l_after, dr_after, sr_after, so_after, flags_a_after, flags_b_after, ram_after, stack_after, regs_after, next_by, next}
 use Rattle.wb_port.specs.Facts.{placed}
 use Rattle.wb_port.specs.Wait.{word_of}
 use Rattle.wb_gen.proofs.Words.{next_is}
@@ -80,9 +78,9 @@ pub op_alike : (o : OpWord) (a b : Image) (s t : State) → b.drom ≡ a.drom
 op_alike o a b s t e f g h = (
   following h.0,
   next_is b t (Op o) g
-  ∙ (ap (next_by (Op o) b) h.1
-  ∙ (op_placed o h.0 a b s e
-  ∙ ap (placed (following h.0)) (sym (next_is a s (Op o) f)))),
+      ∙ (ap (next_by (Op o) b) h.1
+      ∙ (op_placed o h.0 a b s e
+      ∙ ap (placed (following h.0)) (sym (next_is a s (Op o) f)))),
 )
 
 -- a word that does nothing
@@ -112,21 +110,20 @@ pub turning_alike : (a b : Image) (s t : State) → word_of a s.regs.pc ≡ 0xA0
 turning_alike a b s t v w h = (
   1,
   next_is b t (instr_of 0xA00004) (ap instr_of w)
-  ∙ (turning_places b t
-  ∙ (ap (placed 1) h.1
-  ∙ ap (placed 1) (sym (next_is a s (instr_of 0xA00004) (ap instr_of v) ∙ turning_places a s)))),
+      ∙ (turning_places b t
+      ∙ (ap (placed 1) h.1
+      ∙ ap (placed 1) (sym (next_is a s (instr_of 0xA00004) (ap instr_of v) ∙ turning_places a s)))),
 )
 
 pub leaving_alike : (a b : Image) (s t : State) → is_request s.regs ≡ false → is_request t.regs ≡ false
     → word_of a s.regs.pc ≡ 0x97C008 → word_of b t.regs.pc ≡ 0x97C008 → AreAlike s t → AreAlike (next a s) (next b t)
 leaving_alike a b s t q r v w h =
-    let at = following t.regs.pc in
-    (
+    let at = following t.regs.pc in (
       at,
       next_is b t (instr_of 0x97C008) (ap instr_of w)
-      ∙ (leaving_places b t r
-      ∙ (ap (placed at) h.1
-      ∙ ap (placed at) (sym (next_is a s (instr_of 0x97C008) (ap instr_of v) ∙ leaving_places a s q)))),
+          ∙ (leaving_places b t r
+          ∙ (ap (placed at) h.1
+          ∙ ap (placed at) (sym (next_is a s (instr_of 0x97C008) (ap instr_of v) ∙ leaving_places a s q)))),
     )
 
 -- the word that sets the status register
@@ -138,9 +135,9 @@ pub setting_alike : (a b : Image) (s t : State) → word_of a s.regs.pc ≡ 0xC1
 setting_alike a b s t v w h = (
   following h.0,
   next_is b t (instr_of 0xC10007) (ap instr_of w)
-  ∙ (ap (next_by (instr_of 0xC10007) b) h.1
-  ∙ (setting_places a b h.0 s
-  ∙ ap (placed (following h.0)) (sym (next_is a s (instr_of 0xC10007) (ap instr_of v))))),
+      ∙ (ap (next_by (instr_of 0xC10007) b) h.1
+      ∙ (setting_places a b h.0 s
+      ∙ ap (placed (following h.0)) (sym (next_is a s (instr_of 0xC10007) (ap instr_of v))))),
 )
 
 -- at the same address they are equal

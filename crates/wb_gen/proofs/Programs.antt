@@ -8,7 +8,6 @@ use Rattle.std.proofs.lemmas.List.Elements.{All-from_recursion, recursion_from_A
 use Rattle.wb_word.specs.Encoding.{instr_of}
 use Rattle.wb_word.specs.declared.codes.Dst.{Dst}
 use Rattle.wb_word.specs.declared.codes.Src.{Src}
-use Rattle.wb_word.specs.declared.words.Instr.{Instr}
 use Rattle.wb_rom.specs.declared.images.Image.{Image}
 use Rattle.wb_port.specs.Wait.{src_touches, dst_touches, instr_touches, touches, word_of}
 use Rattle.wb_gen.specs.Demo.{body_sources, body_targets, opening, closing, padded, IsBodyWord, IsBody, HoldsProgram, IsPairOf}

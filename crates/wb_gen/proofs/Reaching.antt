@@ -1,6 +1,6 @@
 -- The points that the held runs of the demo pass: those of the circle, after each list of kinds.
-use Rattle.std.proofs.Common.{◌≡◌, ℕ, zero, suc, ◌+◌, ◌*◌, ◌/◌, ◌%◌, ◌<◌, ◌≤◌, Bool, true, false, ◌==◌, List, [], ◌∷◌, ◌++◌, length, map, replicate, refl, sym, ap, subst, ◌∙◌, arith, length-append}
-use Rattle.std.specs.Prelude.{All, Contains}
+use Rattle.std.proofs.Common.{◌≡◌, ℕ, suc, ◌+◌, ◌*◌, ◌/◌, ◌%◌, ◌<◌, Bool, true, false, ◌==◌, List, [], ◌∷◌, ◌++◌, length, map, replicate, refl, sym, subst, ◌∙◌, arith, length-append}
+use Rattle.std.specs.Prelude.{Contains}
 use Rattle.std.specs.List.{range_with_len, AllByRecursion}
 use Rattle.std.proofs.lemmas.List.FromFn.{length-map-range_with_len, get_or-map-range_with_len}
 use Rattle.std.proofs.lemmas.List.Elements.{Contains-append_left, Contains-append_right, recursion_from_All}
@@ -25,7 +25,7 @@ use Rattle.wb_law.specs.Course.{strides, Given}
 use Rattle.wb_law.specs.Points.{PointsArePassedAfterAccesses}
 use Rattle.wb_law.specs.Reached.{ListsBoundPointsOfASide, BoundsOfSidesAddUp}
 use Rattle.wb_gen.specs.Laws.{demo_shape, PairsReachFewPoints}
-use Rattle.wb_gen.proofs.Circle.{Stands, Stage, Start, First, Asking, Served, Going, Back, At, Group, Before, After, Has, IsIn, IsServing, strides_in, given_after, powered_in}
+use Rattle.wb_gen.proofs.Circle.{Stands, Stage, Start, First, Asking, Served, Going, Back, At, Before, After, Has, IsIn, IsServing, strides_in, given_after, powered_in}
 use Rattle.wb_gen.proofs.Programs.{serving_pair}
 
 module _ (s : Side) (calm : ℕ) where
@@ -93,10 +93,12 @@ module _ (s : Side) (calm : ℕ) where
       let b = after_length wr in
       let c = after_length wrw in
       let d = after_length wrwr in
-      omega (arith,
+      omega (
+        arith,
         length-append (after_points w) (after_points wr ++ (after_points wrw ++ after_points wrwr)),
         length-append (after_points wr) (after_points wrw ++ after_points wrwr),
-        length-append (after_points wrw) (after_points wrwr))
+        length-append (after_points wrw) (after_points wrwr),
+      )
 
   -- each point of the circle stands in the list of its kinds
   before_listed : (c : Chip) → IsIn calm Before c → Contains before_points (point_at s [] c)

@@ -1,11 +1,10 @@
 -- The two chips of a pair come to each request with equal machines, where they were served alike.
-use Rattle.std.proofs.Common.{◌≡◌, ℕ, zero, suc, ◌+◌, ◌<◌, ◌≤◌, Bool, true, false, List, [], ◌∷◌, ◌++◌, length, get_or, drop, refl, sym, ap, subst, ◌∙◌, arith, inl, inr, ◌⊎◌}
+use Rattle.std.proofs.Common.{◌≡◌, ℕ, zero, suc, ◌+◌, ◌<◌, ◌≤◌, Bool, true, false, List, [], ◌∷◌, length, get_or, refl, sym, ap, subst, ◌∙◌, arith, inl, inr, ◌⊎◌}
 use Rattle.std.specs.Prelude.{All}
 use Rattle.std.specs.List.{AllByRecursion}
 use Rattle.std.proofs.lemmas.List.Elements.{recursion_from_All}
 use Rattle.std.proofs.lemmas.Bool.{true≢false}
 use Rattle.wb_word.specs.Encoding.{instr_of}
-use Rattle.wb_word.specs.declared.words.Instr.TheVariants.{Op}
 use Rattle.wb_rom.specs.declared.images.Image.{Image}
 use Rattle.wb_machine.specs.State.{State}
 use Rattle.wb_machine.specs.State.{rqm as is_request}
@@ -19,10 +18,10 @@ use Rattle.wb_port.specs.Port.{accessed}
 use Rattle.wb_port.specs.Schedule.{powered, applied}
 use Rattle.wb_port.specs.Talk.{IsTransfer}
 use Rattle.wb_port.specs.Wait.{word_of}
-use Rattle.wb_law.specs.Course.{rests, stop_of, stride, strides, RestsAt, Given, AsksAfter}
+use Rattle.wb_law.specs.Course.{rests, stride, strides, RestsAt, Given, AsksAfter}
 use Rattle.wb_gen.specs.Demo.{padded}
 use Rattle.wb_gen.proofs.Words.{IsCalm}
-use Rattle.wb_gen.proofs.Circle.{IsServing, Stands, Stage, Start, First, Asking, Served, Going, Back, At, Before, After, IsIn, IsFree, going_free, going_on, going_turns, asked_free, asked_again, start_free, start_goes, served_free, served_goes, asking_rests, asking_found, served_by, powered_stands}
+use Rattle.wb_gen.proofs.Circle.{IsServing, Stands, Start, Asking, Served, Going, At, Before, After, IsFree, going_free, going_on, going_turns, asked_free, asked_again, start_free, start_goes, served_free, served_goes, asking_rests, asking_found, served_by, powered_stands}
 use Rattle.wb_gen.proofs.Programs.{circle}
 use Rattle.wb_gen.proofs.Placed.{AreAlike, equal_alike, op_alike, nothing_alike, turning_alike, leaving_alike, setting_alike, alike_equal}
 

@@ -1,5 +1,5 @@
 -- What each word of the two programs does to the program counter, the stack and the status register.
-use Rattle.std.proofs.Common.{◌≡◌, ℕ, ◌+◌, ◌%◌, ◌<◌, true, false, replicate, List, refl, sym, ap, ◌∙◌, arith}
+use Rattle.std.proofs.Common.{◌≡◌, ℕ, ◌+◌, ◌<◌, true, false, replicate, refl, ap, ◌∙◌, arith}
 use Rattle.wb_word.specs.Encoding.{instr_of}
 use Rattle.wb_word.specs.declared.words.OpWord.{OpWord}
 use Rattle.wb_word.specs.declared.words.Instr.{Instr}

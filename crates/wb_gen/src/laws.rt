@@ -8,14 +8,15 @@ use wb_law::{
 use wb_port::{calm_words_keep_the_port, fronts_fit, raising_words_touch};
 use wb_word::coding_laws;
 
-/// The body of every number is a body: 64 words that compute and move, and touch nothing else.
+/// The body of every number is a body: 64 words that compute and move between the registers of `body_sources` and
+/// `body_targets`, so that none jumps, touches the port or changes DP or RP.
 pub fn numbers_have_bodies()
     ensures { NumbersHaveBodies }
 {
     coding_laws();
 }
 
-/// At most 283 points are reached on the first side, and at most 411 on the second.
+/// At most 283 points are reached on the first side and at most 411 on the second, with either power.
 pub fn pairs_reach_few_points()
     ensures { PairsReachFewPoints }
 {
@@ -27,7 +28,7 @@ pub fn pairs_reach_few_points()
     bounds_of_sides_add_up();
 }
 
-/// No held run breaches or overruns.
+/// No fitting dialogue's held run breaches or overruns on either side.
 pub fn pairs_keep_going()
     ensures { PairsKeepGoing }
 {
@@ -36,7 +37,7 @@ pub fn pairs_keep_going()
     held_runs_stop_before_or_after();
 }
 
-/// No dialogue differs.
+/// No fitting dialogue differs, and two hosts that hold the same fitting talk hear the same.
 pub fn pairs_say_the_same()
     ensures { PairsSayTheSame }
 {

@@ -1,4 +1,3 @@
-use Rattle.std.proofs.Common.{◌+◌, ◌<◌, ◌≤◌, arith, sym, ap, ◌∙◌}
 use Rattle.wb_gen.proofs.BodyWords.{none_written, one_written, all_written_first, all_written_second}
 use Rattle.wb_gen.proofs.bodies.write_bodies.Goals as goal
 
