@@ -1,5 +1,5 @@
 -- Events that are applied one by one, with the count held after each.
-use Rattle.std.proofs.Common.{◌≡◌, ℕ, ◌+◌, ◌-◌, ◌^◌, min, Bool, true, false, List, [], ◌∷◌, refl, sym, ◌∙◌, ap, arith}
+use Rattle.std.proofs.Common.{◌≡◌, ℕ, ◌-◌, ◌^◌, min, Bool, true, false, List, [], ◌∷◌, refl, sym, ◌∙◌, ap, arith}
 use Rattle.wb_rom.specs.declared.images.Image.{Image}
 use Rattle.wb_port.specs.declared.accesses.Event.{Event}
 use Rattle.wb_port.specs.declared.accesses.Event.TheVariants as event
@@ -8,7 +8,7 @@ use Rattle.wb_port.specs.Port.{accessed}
 use Rattle.wb_port.specs.Wait.{raises_request}
 use Rattle.wb_port.specs.Monitor.{capped, stepped, observed, count_after, is_idle, is_breach, is_leaving, word_at}
 use Rattle.wb_port.specs.Schedule.{applied, after}
-use Rattle.wb_law.specs.Counts.{applied_each, AppliedChipsFollow}
+use Rattle.wb_law.specs.Counts.{AppliedChipsFollow}
 
 -- a count that is held at the greatest number makes no other difference
 count-capped : (idle raised : Bool) (n : ℕ) → min (count_after idle raised (min n (2 ^ 64 - 1))) (2 ^ 64 - 1) ≡ min (count_after idle raised n) (2 ^ 64 - 1)

@@ -28,8 +28,8 @@ mod trails;
 pub use accesses::{Access, Event, Kind, Letter, Power};
 pub use chips::{Chip, Monitor};
 pub use laws_loops::{
-    loops_are_one, loops_are_polls, loops_share_no_address, polls_begin_loops,
-    runs_come_to_an_end, worked_loops,
+    loops_are_one, loops_are_polls, loops_share_no_address, polls_begin_loops, runs_come_to_an_end,
+    worked_loops,
 };
 pub use laws_single::{
     accesses_raise_nothing, calm_words_commute, calm_words_keep_the_port, gates_are_near,

@@ -42,11 +42,7 @@ pub fn write_transcript(t: &Transcript, text: &mut Vec<u8>)
 pub fn transcript_text(alloc: Global, t: &Transcript) -> Result<Vec<u8>, OutOfMemory>
     ensures { IfOk result (λ text. text.items ≡ transcript_bytes t.now) }
 {
-    let lines = t
-        .lines
-        .len()
-        .checked_mul(LINE_BYTES)
-        .ok_or(OutOfMemory)?;
+    let lines = t.lines.len().checked_mul(LINE_BYTES).ok_or(OutOfMemory)?;
     let room = lines.checked_add(END_BYTES).ok_or(OutOfMemory)?;
     let mut text = Vec::with_capacity(alloc, room)?;
     write_transcript(t, &mut text);
