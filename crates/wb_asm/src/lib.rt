@@ -8,7 +8,7 @@
 //!
 //! `laying` goes through the third reading, `reading` reads one line of it into a `layout` of two `spaces` and the
 //! `names`; `assembly` goes through the fourth, `filling` puts one statement's words, `words` and `values` compute
-//! them. `faults` has what a caller is answered. `Layout`, `Space`, `Names` and `Counters` are public because the
+//! them. `counters` has the counters before a statement, and `faults` what a caller is answered. `Layout`, `Space`, `Names` and `Counters` are public because the
 //! definitions speak of them; only this crate makes them.
 #![tactic(auto)]
 

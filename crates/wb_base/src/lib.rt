@@ -4,7 +4,9 @@
 //! call that fails says so by that count. `read_whole` (`src/reading.rt`) gives a content whole or says
 //! why not, and `put_all` (`src/writing.rt`) puts a text whole or a part from its front. `MemShelf` and
 //! `MemSink` are in memory and fail where they are told to; `FileShelf` and `StdSink` are the real ones.
-//! `specs/Shelf.antt` and `specs/Sink.antt` say what the traits promise.
+//! `shelves` and `sinks` have the traits, `faults` what their calls answer, `mem_shelf`, `mem_sink`,
+//! `file_shelf` and `std_sink` the four types; `calls` counts the calls that are to fail, and `opened` reads
+//! one file front to back. `specs/Shelf.antt` and `specs/Sink.antt` say what the traits promise.
 #![tactic(auto)]
 
 mod calls;

@@ -1,12 +1,10 @@
 -- Different words have different lines, since a line is read in one way.
-use Rattle.std.proofs.Common.{◌≡◌, ℕ, ◌^◌, ◌<◌, List, [], ◌∷◌, ◌++◌, Option, None, refl, sym, ap, ◌∙◌, subst, append-nil}
+use Rattle.std.proofs.Common.{◌≡◌, ℕ, ◌^◌, ◌<◌, List, [], ◌∷◌, ◌++◌, None, refl, sym, ap, ◌∙◌, subst, append-nil}
 use Rattle.wb_lex.specs.declared.tokens.Token.{Token}
 use Rattle.wb_lex.specs.Tokens.{IsTokens, tokens_from}
 use Rattle.wb_lex.specs.Pieces.{IsCut}
 use Rattle.wb_syntax.specs.Statement.{IsStatement, line_number}
-use Rattle.wb_syntax.specs.declared.statements.Body.{Body}
 use Rattle.wb_syntax.specs.declared.statements.Statement.{Statement}
-use Rattle.wb_asm.specs.declared.counters.Counters.{Counters}
 use Rattle.wb_asm.specs.Words.{prog_with}
 use Rattle.wb_word.specs.Encoding.{number, instr_of}
 use Rattle.wb_dis.specs.Line.{canonical_line}

@@ -7,8 +7,7 @@ use Rattle.wb_port.specs.declared.chips.Chip.{Chip}
 use Rattle.wb_port.specs.Wait.{raises_request}
 use Rattle.wb_port.specs.Monitor.{capped, stepped, observed, count_after, is_idle, word_at}
 use Rattle.wb_port.specs.Schedule.{powered, applied, after}
-use Rattle.wb_port.specs.Endings.{applied_each, AppliedChipsFollow}
-use Rattle.wb_law.specs.Counts.{steps_of, AppliedChipsAreHeldAtTheGreatestCount, CountsAreAtMostTheSteps, ShortSchedulesHoldNothing}
+use Rattle.wb_law.specs.Counts.{steps_of, applied_each, AppliedChipsFollow, AppliedChipsAreHeldAtTheGreatestCount, CountsAreAtMostTheSteps, ShortSchedulesHoldNothing}
 
 one_more : (idle raised : Bool) (n : ℕ) → count_after idle raised n ≤ n + 1
 one_more true raised n = omega arith

@@ -24,7 +24,7 @@ use Rattle.wb_port.specs.Run.{Moment, Steps, Ends, is_waiting, turn, turns, begi
 use Rattle.wb_law.specs.Course.{stop_of, strides, RestsAt, Given}
 use Rattle.wb_port.specs.Points.{point_of, point_at}
 use Rattle.wb_law.specs.Points.{PassesAfter}
-use Rattle.wb_port.specs.FitLaws.{FrontsFit, StatusReadsAlwaysFit}
+use Rattle.wb_law.specs.FitLaws.{FrontsFit, StatusReadsAlwaysFit}
 use Rattle.wb_port.specs.Executes.{Executes}
 use Rattle.wb_law.specs.declared.classes.Class.TheVariants.{Rests, GoesOn}
 use Rattle.wb_law.specs.Addresses.{Shows, IsShown, ExecutedAddressesAreShown, ShownAddressesAreExecuted, ReachedPointsShowTheExecuted}

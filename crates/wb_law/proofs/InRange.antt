@@ -12,9 +12,8 @@ use Rattle.wb_port.specs.declared.runs.Run.{Run}
 use Rattle.wb_port.specs.Monitor.{stepped}
 use Rattle.wb_port.specs.Schedule.{powered, applied}
 use Rattle.wb_port.specs.Talk.{IsByteAccess}
-use Rattle.wb_port.specs.Ranges.{AccessesKeepRanges}
 use Rattle.wb_law.specs.Course.{rests, stop_of, stride, strides, Given}
-use Rattle.wb_law.specs.Ranges.{StridingChipsStayInRange}
+use Rattle.wb_law.specs.Ranges.{AccessesKeepRanges, StridingChipsStayInRange}
 use Rattle.wb_law.proofs.Course.{stride_rests, stride_stops, stride_steps}
 
 module _ (kept : RangesAreKept) (starts : StartsAreInRange) (accesses : AccessesKeepRanges) where

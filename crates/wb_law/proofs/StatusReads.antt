@@ -19,7 +19,7 @@ use Rattle.wb_port.specs.Talk.{kinds, transfers_of, dialogue}
 use Rattle.wb_port.specs.Run.{Moment, Turn, Gives, Steps, Ends, give, is_waiting, turn, goes_on, turns}
 use Rattle.wb_law.specs.Course.{stop_of}
 use Rattle.wb_port.specs.Points.{point_of, point_at}
-use Rattle.wb_port.specs.FitLaws.{StatusReadsAlwaysFit, TransfersAreLeft}
+use Rattle.wb_law.specs.FitLaws.{StatusReadsAlwaysFit, TransfersAreLeft}
 use Rattle.wb_law.specs.Reached.{StatusReadsPassNoPoint, FittingDialoguesPassReachedPoints}
 use Rattle.wb_law.proofs.Replies.{kinds_append}
 use Rattle.wb_law.proofs.Turns.{moment, gives, waits, stays}

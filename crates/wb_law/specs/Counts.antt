@@ -5,8 +5,19 @@ use Rattle.wb_port.specs.declared.accesses.Event.{Event}
 use Rattle.wb_port.specs.declared.accesses.Event.TheVariants as event
 use Rattle.wb_port.specs.declared.chips.Chip.{Chip}
 use Rattle.wb_port.specs.Monitor.{capped}
-use Rattle.wb_port.specs.Schedule.{powered, after}
-use Rattle.wb_port.specs.Endings.{applied_each}
+use Rattle.wb_port.specs.Schedule.{powered, applied, after}
+
+-- the chip to which the events of a schedule were applied one by one, its count held at the greatest number
+-- of 64 bits after each
+abbrev pub applied_each : Image → List Event → Chip → Chip
+applied_each image [] c = c
+applied_each image (e ∷ s) c = applied_each image s (capped (applied image e c))
+
+-- Applying events one by one comes to the chip after the schedule, but for a count past 64 bits.
+abbrev pub AppliedChipsFollow : Type 0
+AppliedChipsFollow =
+    (image : Image) (s : List Event) (c : Chip)
+    → capped (applied_each image s c) ≡ capped (after image s c)
 
 -- how many instructions a schedule executes
 abbrev pub steps_of : List Event → ℕ

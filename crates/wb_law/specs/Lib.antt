@@ -2,6 +2,7 @@ pub mod Addresses
 pub mod Classes
 pub mod Counts
 pub mod Course
+pub mod FitLaws
 pub mod Points
 pub mod PortFacts
 pub mod Ranges

@@ -4,11 +4,12 @@ use Rattle.std.specs.Option.{option_to_list}
 use Rattle.wb_port.specs.Talk.{dialogue, transfers_of}
 use Rattle.wb_rom.specs.declared.images.Image.{Image}
 use Rattle.wb_port.specs.declared.accesses.Access.{Access}
+use Rattle.wb_port.specs.declared.accesses.Event.{Event}
 use Rattle.wb_port.specs.declared.accesses.Event.TheVariants as event
 use Rattle.wb_port.specs.declared.chips.Chip.{Chip}
 use Rattle.wb_port.specs.declared.runs.Run.TheVariants.{Answered}
 use Rattle.wb_port.specs.Port.{rqm, access_reply}
-use Rattle.wb_port.specs.Schedule.{powered, applied}
+use Rattle.wb_port.specs.Schedule.{powered, applied, after}
 use Rattle.wb_port.specs.Run.{EndsAs}
 use Rattle.wb_law.specs.Course.{strides, RestsAt, Given, AsksAfter}
 
@@ -76,3 +77,10 @@ abbrev pub RequestsAreOnTheWay : Type 0
 RequestsAreOnTheWay =
     (image : Image) (k : ℕ) (b d : Chip)
     → RestsAt image k false b d → (j : ℕ) × (strides image k true j b ≡ d)
+
+-- At every moment of every schedule, a request that stands is asked.
+abbrev pub RequestsAreAsked : Type 0
+RequestsAreAsked =
+    (image : Image) (start : List ℕ) (s : List Event)
+    → rqm (after image s (powered start)).machine ≡ true
+    → (after image s (powered start)).monitor.asked ≡ true

@@ -1,7 +1,7 @@
 //! The addresses that held runs execute, by their points.
 ghost use Rattle.wb_law.specs.Addresses.{ExecutedAddressesAreShown, ShownAddressesAreExecuted, ReachedPointsShowTheExecuted};
 
-use wb_port::{fronts_fit, status_reads_always_fit};
+use crate::fits::{fronts_fit, status_reads_always_fit};
 
 /// Each executed address is shown by a point.
 pub fn executed_addresses_are_shown()

@@ -1,7 +1,10 @@
 //! Events that are applied one by one to a chip whose count is held.
-ghost use Rattle.wb_law.specs.Counts.{AppliedChipsAreHeldAtTheGreatestCount, CountsAreAtMostTheSteps, ShortSchedulesHoldNothing};
+ghost use Rattle.wb_law.specs.Counts.{AppliedChipsFollow, AppliedChipsAreHeldAtTheGreatestCount, CountsAreAtMostTheSteps, ShortSchedulesHoldNothing};
 
-use wb_port::applied_chips_follow;
+/// Events that are applied one by one come to the chip after the schedule, but for a count past 64 bits.
+pub fn applied_chips_follow()
+    ensures { AppliedChipsFollow }
+{}
 
 /// The chip is that after the schedule, with its count held at the greatest number of 64 bits.
 pub fn applied_chips_are_held_at_the_greatest_count()

@@ -1,5 +1,5 @@
-//! Held chips, their ranks and their points.
-ghost use Rattle.wb_law.specs.Points.{HeldChipsStayInPace, RanksRise, RanksAreOnce, PointsArePassedAfterAccesses, LastPointsArePassedAfterAll};
+//! Held chips, their ranks and their points, and how a point goes on.
+ghost use Rattle.wb_law.specs.Points.{HeldChipsStayInPace, RanksRise, RanksAreOnce, PointsArePassedAfterAccesses, LastPointsArePassedAfterAll, TrailsHoldThePoints, PointsGoOn};
 
 use crate::facts::port_facts;
 
@@ -32,4 +32,14 @@ pub fn points_are_passed_after_accesses()
 /// A held run without status reads passes a point with all of its kinds exactly where the held chip does after the last access.
 pub fn last_points_are_passed_after_all()
     ensures { LastPointsArePassedAfterAll }
+{}
+
+/// The points of a trail are those that the held run passes.
+pub fn trails_hold_the_points()
+    ensures { TrailsHoldThePoints }
+{}
+
+/// A point goes on by what it was and by what the machine shows then.
+pub fn points_go_on()
+    ensures { PointsGoOn }
 {}

@@ -1,7 +1,7 @@
 //! How many points are reached: bounds, and what they are counted by.
 ghost use Rattle.wb_law.specs.Reached.{StatusReadsPassNoPoint, FittingDialoguesPassReachedPoints, PointsAreReachedOnTheirSide, ListsBoundReachedPoints, ListsBoundPointsOfASide, GreaterBoundsHold, GreaterBoundsHoldOfASide, BoundsHoldOfEachSide, BoundsOfSidesAddUp};
 
-use wb_port::{status_reads_always_fit, transfers_are_left};
+use crate::fits::{status_reads_always_fit, transfers_are_left};
 
 /// Leaving status reads out changes no point of a held run.
 pub fn status_reads_pass_no_point()

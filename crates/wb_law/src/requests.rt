@@ -1,5 +1,5 @@
 //! Requests, and the accesses that are given at them.
-ghost use Rattle.wb_law.specs.Requests.{RequestsAreOne, GivenChipsAreOne, LastAccessIsGivenAtARequest, LastReplyIsGivenAtARequest, StatusReadsMoveNoRequest, FirstRequestsAreFresh, FreshRequestsAreFirst, RequestsAreOnTheWay};
+ghost use Rattle.wb_law.specs.Requests.{RequestsAreOne, GivenChipsAreOne, LastAccessIsGivenAtARequest, LastReplyIsGivenAtARequest, StatusReadsMoveNoRequest, FirstRequestsAreFresh, FreshRequestsAreFirst, RequestsAreOnTheWay, RequestsAreAsked};
 
 use crate::facts::port_facts;
 
@@ -46,3 +46,10 @@ pub fn fresh_requests_are_first()
 pub fn requests_are_on_the_way()
     ensures { RequestsAreOnTheWay }
 {}
+
+/// A request that stands is asked, at every moment of every schedule.
+pub fn requests_are_asked()
+    ensures { RequestsAreAsked }
+{
+    port_facts();
+}

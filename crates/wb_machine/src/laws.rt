@@ -7,7 +7,7 @@ pub fn parts_go_on_alone()
     ensures { PartsGoOnAlone }
 {}
 
-/// A move to SR writes bits 14, 13, 11 to 7, 1 and 0, and leaves RQM, DRS and the others as they stood.
+/// A move to SR writes bits 14, 13, 11 to 7, 1 and 0, and leaves RQM, DRS and the others as the source left them.
 pub fn moves_to_sr_go_by_bits()
     ensures { MovesToSrGoByBits }
 {}

@@ -4,16 +4,12 @@ pub mod CalmNext
 pub mod CalmReads
 pub mod Circles
 pub mod Ends
-pub mod Fitting
 pub mod Facts
 pub mod Gates
-pub mod GoingOn
 pub mod LoopsGate
 pub mod Measure
-pub mod Passed
 pub mod Passing
 pub mod Playing
-pub mod Ranged
 pub mod Promises
 pub mod Samples
 pub mod SharedLoops

@@ -1,18 +1,10 @@
--- What is true of every wait loop, every schedule and every run: loops, requests, counts and ends.
-use Rattle.std.specs.Prelude.{◌≡◌, ◌↔◌, ℕ, ◌+◌, ◌*◌, ◌<◌, ◌≤◌, Bool, true, List, [], ◌∷◌, Contains}
-use Rattle.wb_word.specs.declared.sides.Side.{Side}
+-- What is true of every wait loop, and that every run comes to one end.
+use Rattle.std.specs.Prelude.{◌≡◌, ◌↔◌, ℕ, ◌+◌, ◌*◌, ◌<◌, ◌≤◌, Bool, true}
 use Rattle.wb_rom.specs.declared.images.Image.{Image}
-use Rattle.wb_port.specs.declared.accesses.Event.{Event}
-use Rattle.wb_port.specs.declared.chips.Chip.{Chip}
-use Rattle.wb_port.specs.declared.points.Point.{Point}
 use Rattle.wb_port.specs.declared.runs.Run.{Run}
-use Rattle.wb_port.specs.Port.{rqm}
 use Rattle.wb_port.specs.Wait.{is_loop, is_poll, follow_times}
-use Rattle.wb_port.specs.Monitor.{capped}
-use Rattle.wb_port.specs.Schedule.{powered, applied, after}
 use Rattle.wb_port.specs.Talk.{Talk, transfers}
 use Rattle.wb_port.specs.Run.{turn, turns, instructions, beginning, Ends, EndsAs}
-use Rattle.wb_port.specs.Points.{Passes, IsTrail}
 
 -- the address begins a wait loop of so many words, one to eight
 pub record IsLoopOf (image : Image) (at m : ℕ) : Type 0 where
@@ -54,25 +46,6 @@ LoopsShareNoAddress =
     → IsPlaceOf image at place → IsPlaceOf image other place
     → SameLoop image at m other n
 
--- At every moment of every schedule, a request that stands is asked.
-abbrev pub RequestsAreAsked : Type 0
-RequestsAreAsked =
-    (image : Image) (start : List ℕ) (s : List Event)
-    → rqm (after image s (powered start)).machine ≡ true
-    → (after image s (powered start)).monitor.asked ≡ true
-
--- the chip to which the events of a schedule were applied one by one, its count held at the greatest number
--- of 64 bits after each
-abbrev pub applied_each : Image → List Event → Chip → Chip
-applied_each image [] c = c
-applied_each image (e ∷ s) c = applied_each image s (capped (applied image e c))
-
--- Applying events one by one comes to the chip after the schedule, but for a count past 64 bits.
-abbrev pub AppliedChipsFollow : Type 0
-AppliedChipsFollow =
-    (image : Image) (s : List Event) (c : Chip)
-    → capped (applied_each image s c) ≡ capped (after image s c)
-
 -- the run comes to this end, after so many turns and at most (k + 7) * (transfers + 2) instructions
 pub record ComesToAnEnd (image : Image) (k : ℕ) (held : Bool) (d : Talk) : Type 0 where
   pub end : Run
@@ -84,9 +57,3 @@ pub record ComesToAnEnd (image : Image) (k : ℕ) (held : Bool) (d : Talk) : Typ
 -- Every run comes to an end, to one alone, and soon.
 abbrev pub RunsComeToAnEnd : Type 0
 RunsComeToAnEnd = (image : Image) (k : ℕ) (held : Bool) (d : Talk) → ComesToAnEnd image k held d
-
--- The points of a held run in order are those that it passes.
-abbrev pub TrailsHoldThePoints : Type 0
-TrailsHoldThePoints =
-    (image : Image) (s : Side) (k : ℕ) (d : Talk) (points : List Point) (p : Point)
-    → IsTrail image s k d points → Contains points p ↔ Passes image s k d p

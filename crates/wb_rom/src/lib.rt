@@ -3,7 +3,7 @@
 //! `Image::read_file` and `write_file` go between an image and the 8192 bytes of its file exactly by `IsImageOf`
 //! of `specs/ImageBytes.antt`, which is one to one, and can't be refused; `from_bytes` and `to_bytes` take the
 //! memory for that first. `images` has the image, `read` and `write` the two directions, `faults` why bytes gave
-//! no image.
+//! no image, `laws` that the bytes of an image are its own.
 #![tactic(auto)]
 
 mod faults;

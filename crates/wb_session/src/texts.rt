@@ -1,34 +1,110 @@
-//! The text of a transcript.
-ghost use Rattle.std.specs.Prelude.{◌≡◌, IfOk};
-ghost use Rattle.wb_session.specs.Texts.{transcript_bytes};
+//! The text of one line of a transcript, which takes no memory.
+ghost use Rattle.std.specs.Prelude.{◌≡◌, ◌+◌, ◌<◌, ◌≤◌, ◌∷◌, [], ◌++◌, codes, decimal, length};
+ghost use Rattle.arrayvec.specs.ArrayString.{array_string_len};
+ghost use Rattle.wb_session.specs.Texts.{hex_digit, hex_byte, line_text, ended_text};
 
-use crate::transcripts::Transcript;
-use std::alloc::Global;
-use std::fmt::Write;
-use wb_word::OutOfMemory;
+use crate::transcripts::{Ended, Line};
+use arrayvec::ArrayString;
+use itoa::Buffer;
 
-/// The most bytes that a line takes with its line feed: those of `WAIT 65535`.
-const LINE_BYTES: usize = 11;
+/// The text of a line without its line feed. The longest is `SILENT 4294967295`.
+pub type LineText = ArrayString<17>;
 
-/// The most bytes that the last line takes: those of `SILENT 4294967295`.
-const END_BYTES: usize = 18;
-
-/// The text of a transcript: a line for each answer, and one for how it ended. Bytes stand as two hexadecimal
-/// digits in capitals, counts and item numbers in decimal.
-pub fn transcript_text(alloc: Global, t: &Transcript) -> Result<Vec<u8>, OutOfMemory>
-    ensures { IfOk result (λ text. text.items ≡ transcript_bytes t.now) }
+/// A hexadecimal digit.
+fn digit(value: u8) -> char
+    requires { value < 16 }
+    ensures value { result ≡ hex_digit value }
+    ensures ascii { result < 128 }
 {
-    let room = t
-        .lines
-        .len()
-        .saturating_mul(LINE_BYTES)
-        .saturating_add(END_BYTES);
-    let mut text = String::with_capacity(alloc, room)?;
-    for place in 0..t.lines.len() {
-        let line = t.lines.at(place);
-        writeln!(text, "{line}")?;
+    if value < 10 {
+        char::from(b'0' + value)
+    } else {
+        char::from(b'A' - 10 + value)
     }
-    let ended = t.ended;
-    writeln!(text, "{ended}")?;
-    Ok(text.into_bytes())
+}
+
+/// Appends a hexadecimal digit.
+#[tactic(auto, using(std::proofs::lemmas::Str::encode_ascii))]
+fn push_digit(text: &mut LineText, value: u8)
+    requires digit { value < 16 }
+    requires room { array_string_len text.old + 1 ≤ 17 }
+    ensures { text.new.bytes ≡ text.old.bytes ++ hex_digit value ∷ [] }
+{
+    text.push(digit(value));
+}
+
+/// A word, and a number of at most 16 bits in decimal.
+fn count_text(word: &str, count: u16) -> LineText
+    requires { length word.now ≤ 12 }
+    ensures bytes { result.bytes ≡ word.now ++ decimal count }
+    ensures len { array_string_len result ≤ length word.now + 5 }
+{
+    let mut digits = Buffer::new();
+    let mut text = LineText::new();
+    text.push_str(word);
+    text.push_str(digits.format(count));
+    text
+}
+
+/// A word, and the number of an item in decimal.
+fn number_text(word: &str, number: u32) -> LineText
+    requires { length word.now ≤ 7 }
+    ensures { result.bytes ≡ word.now ++ decimal number }
+{
+    let mut digits = Buffer::new();
+    let mut text = LineText::new();
+    text.push_str(word);
+    text.push_str(digits.format(number));
+    text
+}
+
+/// A word, and a byte in two hexadecimal digits.
+fn byte_text(word: &str, byte: u8) -> LineText
+    requires { length word.now ≤ 8 }
+    ensures bytes { result.bytes ≡ word.now ++ hex_byte byte }
+    ensures len { array_string_len result ≡ length word.now + 2 }
+{
+    let mut text = LineText::new();
+    text.push_str(word);
+    push_digit(&mut text, byte >> 4);
+    push_digit(&mut text, byte & 0xF);
+    text
+}
+
+impl Line {
+    /// The text of the line.
+    pub fn text(self) -> LineText
+        ensures bytes { result.bytes ≡ line_text self }
+        ensures len { array_string_len result ≤ 10 }
+    {
+        match self {
+            Line::Waited(count) => count_text("WAIT ", count),
+            Line::Stepped(count) => count_text("STEP ", count),
+            Line::Status(byte) => byte_text("S ", byte),
+            Line::Read(byte) => byte_text("R ", byte),
+            Line::Wrote(byte) => byte_text("W ", byte),
+        }
+    }
+}
+
+/// The word of a run that answered every item.
+fn done_text() -> LineText
+    ensures { result.bytes ≡ codes "DONE" }
+{
+    let mut text = LineText::new();
+    text.push_str("DONE");
+    text
+}
+
+impl Ended {
+    /// The text of the last line.
+    pub fn text(self) -> LineText
+        ensures { result.bytes ≡ ended_text self }
+    {
+        match self {
+            Ended::Done => done_text(),
+            Ended::Early(number) => number_text("EARLY ", number),
+            Ended::Silent(number) => number_text("SILENT ", number),
+        }
+    }
 }

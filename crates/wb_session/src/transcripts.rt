@@ -2,7 +2,6 @@
 ghost use Rattle.std.specs.Prelude.{◌≡◌, ◌<◌, [], ◌∷◌, ◌++◌, OnOk, OnErr, Some, length, slice_get};
 
 use std::alloc::Global;
-use std::fmt;
 use std::marker::Model;
 use wb_word::OutOfMemory;
 
@@ -94,37 +93,4 @@ impl Lines {
 pub struct Transcript {
     pub lines: Lines,
     pub ended: Ended,
-}
-
-impl fmt::Display for Line {
-    ghost use Rattle.std.specs.Prelude.{Some};
-    ghost use Rattle.wb_session.specs.Texts.{line_text};
-
-    ghost output = { λ line. Some (line_text line) };
-
-    #[tactic(auto, using(std::proofs::lemmas::Fmt::hex_byte))]
-    fn fmt<W: fmt::Write>(&self, f: &mut fmt::Formatter<W>) -> fmt::Result {
-        match *self {
-            Line::Waited(count) => write!(f, "WAIT {count}"),
-            Line::Stepped(count) => write!(f, "STEP {count}"),
-            Line::Status(byte) => write!(f, "S {byte:02X}"),
-            Line::Read(byte) => write!(f, "R {byte:02X}"),
-            Line::Wrote(byte) => write!(f, "W {byte:02X}"),
-        }
-    }
-}
-
-impl fmt::Display for Ended {
-    ghost use Rattle.std.specs.Prelude.{Some};
-    ghost use Rattle.wb_session.specs.Texts.{ended_text};
-
-    ghost output = { λ ended. Some (ended_text ended) };
-
-    fn fmt<W: fmt::Write>(&self, f: &mut fmt::Formatter<W>) -> fmt::Result {
-        match *self {
-            Ended::Done => write!(f, "DONE"),
-            Ended::Early(number) => write!(f, "EARLY {number}"),
-            Ended::Silent(number) => write!(f, "SILENT {number}"),
-        }
-    }
 }

@@ -1,9 +1,11 @@
 //! Reads the statements of a source from its tokens.
 //!
 //! `parse` gives exactly the statements of a text, one for each line that isn't empty, or the first line that is
-//! none. `statements.rt` and `exprs.rt` have what it gives, `parser.rt` reads lines, `instructions.rt` a mnemonic and
+//! none. `statements.rt` and `exprs.rt` have what it gives, `faults.rt` and `refusals.rt` why tokens or a part of a line
+//! gave nothing; `separators.rt` cuts the tokens, `spans.rt` gives slices of the text, `spelling.rt` says what a token is
+//! to the grammar, and `mnemonics.rt` has the words that statements begin with; `parser.rt` reads lines, `instructions.rt` a mnemonic and
 //! its operands, `expressions.rt` expressions, `clauses.rt` and `fields.rt` the clauses of a word; `names.rt` reads names
-//! back by the tables of `wb_word`. The grammar stands in `specs/`: `Expression.antt`, `Clause.antt`, `Statement.antt`
+//! back by the tables of `wb_word`, and `laws.rt` says what holds of every text. The grammar stands in `specs/`: `Expression.antt`, `Clause.antt`, `Statement.antt`
 //! and, for a whole text, `Source.antt`.
 #![tactic(auto)]
 

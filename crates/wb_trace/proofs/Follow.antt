@@ -13,7 +13,7 @@ use Rattle.wb_port.specs.declared.accesses.Event.TheVariants as event
 use Rattle.wb_port.specs.declared.chips.Chip.{Chip}
 use Rattle.wb_port.specs.Monitor.{capped}
 use Rattle.wb_port.specs.Schedule.{applied, after}
-use Rattle.wb_port.specs.Endings.{AppliedChipsFollow}
+use Rattle.wb_law.specs.Counts.{AppliedChipsFollow}
 use Rattle.wb_trace.specs.declared.moves.Move.{Move}
 use Rattle.wb_trace.specs.declared.moves.Move.TheVariants as move
 use Rattle.wb_trace.specs.declared.answers.Line.{Line}

@@ -2,7 +2,7 @@
 ghost use Rattle.wb_trace.specs.Laws.{TracesFollowTheirMoves, UndosGiveBack};
 ghost use Rattle.wb_trace.specs.Moves.{EachTextHasOneAnswer};
 
-use wb_port::applied_chips_follow;
+use wb_law::applied_chips_follow;
 
 /// After any moves the two chips, and the pairs that can be taken back to, are those of the moves that stand.
 pub fn traces_follow_their_moves()

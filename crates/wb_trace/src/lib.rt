@@ -2,9 +2,10 @@
 //!
 //! `read_moves` reads a moves file. `Trace` has the two chips and the pairs before them; `Trace::apply` makes one
 //! move, and `trace_text` makes all moves of a file and gives what came of them as a text. `moves` has the moves,
-//! `answers` what comes of one and the text of it, `chips` the two chips, `traces` the trace, `reader` the file,
-//! `reports` the whole text, and `laws` that a trace follows its moves. `specs/Standing.antt` says which moves stand
-//! and what comes of each, with no word of how the pairs are kept.
+//! `answers` what comes of one and the text of it, `digits` letters and hexadecimal digits at the end of a text,
+//! `chips` the two chips, `traces` the trace, `reader` the file, `reports` the whole text, and `laws` that a trace
+//! follows its moves. `specs/Standing.antt` says which moves stand and what comes of each, with no word of how the
+//! pairs are kept.
 #![tactic(auto)]
 
 mod answers;

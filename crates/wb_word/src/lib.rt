@@ -3,7 +3,7 @@
 //! Every 24-bit word is exactly one instruction and back: `decode` and `encode` are inverse, and each meets
 //! the sum of field values that `specs/Encoding.antt` gives. `numbers` has the narrow numbers, `codes` the
 //! field codes, `conditions` the branch codes, `words` the instruction and `coding` its two directions;
-//! `sides` names the two machines of a comparison, `memory` the want of memory.
+//! `sides` names the two machines of a comparison, `memory` the want of memory, `table` the tables of words.
 #![tactic(auto)]
 
 mod codes;

@@ -1,0 +1,5 @@
+use Rattle.wb_port.proofs.Promises.{loops_are_one}
+use Rattle.wb_port.proofs.laws_loops.loops_are_one.Goals as goal
+
+pub returns : goal.returns
+returns c = loops_are_one

@@ -1,5 +1,0 @@
-use Rattle.wb_port.proofs.Promises.{loops_are_polls}
-use Rattle.wb_port.proofs.laws_moments.loops_are_polls.Goals as goal
-
-pub returns : goal.returns
-returns c = loops_are_polls

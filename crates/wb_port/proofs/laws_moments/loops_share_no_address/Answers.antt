@@ -1,5 +1,0 @@
-use Rattle.wb_port.proofs.SharedLoops.{loops_share_no_address}
-use Rattle.wb_port.proofs.laws_moments.loops_share_no_address.Goals as goal
-
-pub returns : goal.returns
-returns c = loops_share_no_address

@@ -1,5 +1,0 @@
-use Rattle.wb_port.proofs.Promises.{polls_begin_loops}
-use Rattle.wb_port.proofs.laws_moments.polls_begin_loops.Goals as goal
-
-pub returns : goal.returns
-returns c = polls_begin_loops

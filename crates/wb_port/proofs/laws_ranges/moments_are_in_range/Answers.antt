@@ -1,5 +1,0 @@
-use Rattle.wb_port.proofs.Ranged.{moments_in}
-use Rattle.wb_port.proofs.laws_ranges.moments_are_in_range.Goals as goal
-
-pub returns : goal.returns
-returns c = moments_in c.ranges_are_kept.ensures c.starts_are_in_range.ensures

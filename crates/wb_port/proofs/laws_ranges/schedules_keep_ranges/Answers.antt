@@ -1,5 +1,0 @@
-use Rattle.wb_port.proofs.Ranged.{schedules_in}
-use Rattle.wb_port.proofs.laws_ranges.schedules_keep_ranges.Goals as goal
-
-pub returns : goal.returns
-returns c = schedules_in c.ranges_are_kept.ensures
