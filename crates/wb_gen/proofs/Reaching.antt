@@ -16,7 +16,7 @@ use Rattle.wb_port.specs.declared.chips.Chip.{Chip}
 use Rattle.wb_port.specs.declared.points.Point.{Point}
 use Rattle.wb_port.specs.Dialogue.{Fits, AllowsEach}
 use Rattle.wb_port.specs.Facts.{CalmWordsKeepThePort, RaisingWordsTouch}
-use Rattle.wb_port.specs.FitLaws.{FrontsFit}
+use Rattle.wb_law.specs.FitLaws.{FrontsFit}
 use Rattle.wb_port.specs.Points.{point_at, IsReachedOn}
 use Rattle.wb_port.specs.Port.{rqm, drs}
 use Rattle.wb_port.specs.Schedule.{powered}

@@ -2,10 +2,11 @@
 ghost use Rattle.wb_gen.specs.Laws.{NumbersHaveBodies, PairsReachFewPoints, PairsKeepGoing, PairsSayTheSame};
 
 use wb_law::{
-    bounds_of_sides_add_up, held_runs_stop_before_or_after, lists_bound_points_of_a_side,
-    points_are_passed_after_accesses, replies_decide, requests_decide,
+    bounds_of_sides_add_up, fronts_fit, held_runs_stop_before_or_after,
+    lists_bound_points_of_a_side, points_are_passed_after_accesses, replies_decide,
+    requests_decide,
 };
-use wb_port::{calm_words_keep_the_port, fronts_fit, raising_words_touch};
+use wb_port::{calm_words_keep_the_port, raising_words_touch};
 use wb_word::coding_laws;
 
 /// The body of every number is a body: 64 words that compute and move between the registers of `body_sources` and
