@@ -1,11 +1,10 @@
 -- The entries of two RAMs, merged one after another.
-use Rattle.std.proofs.Common.{◌≡◌, ℕ, ◌+◌, ◌*◌, ◌<◌, ◌≤◌, ◌⊎◌, inl, inr, Bool, cond, List, [], ◌∷◌, ◌++◌, length, refl, sym, ap, ◌∙◌, subst, arith, add-zero}
+use Rattle.std.proofs.Common.{◌≡◌, ℕ, ◌+◌, ◌*◌, ◌<◌, ◌≤◌, ◌⊎◌, inl, inr, Bool, cond, List, [], ◌∷◌, ◌++◌, length, sym, ap, ◌∙◌, subst, arith}
 use Rattle.std.proofs.lemmas.List.{get_or_append_left, get_or_push, length_push}
 use Rattle.std.proofs.lemmas.Bool.{cases_lt}
 use Rattle.wb_term.specs.declared.nodes.WordId.{WordId}
 use Rattle.wb_term.specs.declared.nodes.BitId.{BitId}
 use Rattle.wb_term.specs.declared.nodes.Node.{Node}
-use Rattle.wb_term.specs.Inputs.{Assignment}
 use Rattle.wb_term.specs.Terms.{Terms, HasWord, HasBit}
 use Rattle.wb_term.specs.Values.{IsWord, word_value, bit_value}
 use Rattle.wb_term.specs.Under.{HasOnly}
@@ -83,3 +82,17 @@ merging_more g0 g g1 c one other words after x y w at so has_bit has_one has_oth
 
       other_there : HasWord g0 (word_in other at)
       other_there = has_other.there at other_in
+
+-- so many words, in a graph of no more nodes
+pub record Listing (g : Terms) (words : List WordId) (at : ℕ) : Type 0 where
+  pub len : length words ≡ at
+  pub has : HasWords g words
+  pub few : length g.nodes ≤ at
+
+pub listing_more : (g g1 : Terms) (words after : List WordId) (w : WordId) (at : ℕ) → Listing g words at → HasWord g1 w → Grown g g1 → AddsAtMost g g1 1 0 →
+    after ≡ words ++ w ∷ [] → Listing g1 after (at + 1)
+listing_more g g1 words after w at so there grown adds pushed = subst (λ (ws : List WordId). Listing g1 ws (at + 1)) (sym pushed) (record {
+  len = length_push words w ∙ ap (λ (n : ℕ). n + 1) so.len;
+  has = record { there = pushed_entry words w (λ k id. HasWord g1 id) (λ k h. grown.words (word_in words k) (so.has.there k h)) there };
+  few = omega (arith, so.few, adds.longer_by);
+})

@@ -1,5 +1,5 @@
 -- A RAM in 16 pages of 16 words.
-use Rattle.std.specs.Prelude.{◌≡◌, ℕ, List, length}
+use Rattle.std.specs.Prelude.{◌≡◌, List, length}
 use Rattle.std.specs.List.{flat_map, AllByRecursion}
 use Rattle.std.specs.declared.rc.Rc.{Rc}
 use Rattle.wb_term.specs.declared.nodes.WordId.{WordId}
