@@ -1,9 +1,10 @@
-ghost use Rattle.std.specs.Prelude.{◌≡◌, ◌<◌, ◌^◌, [], IfOk, length};
-ghost use Rattle.wb_term.specs.Terms.{HasWord, HasBit};
+ghost use Rattle.std.specs.Prelude.{◌≡◌, ◌≤◌, ◌<◌, [], IfOk, length};
+ghost use Rattle.wb_term.specs.Terms.{HasWord};
+ghost use Rattle.wb_fold.specs.Ram.{word_in, HasWords};
 
 use super::*;
 use std::test::Fail;
-use wb_term::{BitId, Graph, Inputs, Scratch, Table, WordId};
+use wb_term::{Graph, Inputs, Scratch, WordId};
 use wb_word::{Alu, Rom};
 
 fn graph_of(rt: &HostRuntime) -> Result<Graph, OutOfMemory>
@@ -19,158 +20,6 @@ fn inputs_of(rt: &HostRuntime, byte: u8) -> Result<Inputs, OutOfMemory> {
     let mut bytes = [0; 16];
     bytes[0] = byte;
     Inputs::new(rt.alloc(), &bytes, &[7; 256])
-}
-
-/// A word by a constructor of two words and a bit.
-fn made_word(
-    graph: &mut Graph,
-    kind: u8,
-    x: WordId,
-    y: WordId,
-    c: BitId,
-) -> Result<WordId, OutOfMemory>
-    requires x { HasWord graph.old x }
-    requires y { HasWord graph.old y }
-    requires c { HasBit graph.old c }
-    requires room { length graph.old.nodes < 2 ^ 31 }
-    ensures { IfOk result (HasWord graph.new) }
-{
-    match kind {
-        0 => mk_not(graph, x),
-        1 => mk_and(graph, x, y),
-        2 => mk_or(graph, x, y),
-        3 => mk_xor(graph, x, y),
-        4 => mk_sum(graph, x, y, c),
-        5 => mk_diff(graph, x, y, c),
-        6 => mk_ite(graph, c, x, y),
-        7 => mk_shl(graph, x, 15),
-        8 => mk_shr(graph, x, 7),
-        9 => mk_high(graph, x, y),
-        10 => mk_low(graph, x, y),
-        11 => mk_look(graph, Table::First, y),
-        12 => mk_shr(graph, x, 8),
-        13 => mk_xor(graph, x, x),
-        _ => mk_cell(graph, 9),
-    }
-}
-
-/// The number and the value of a word over the byte C3, a constant and a known bit.
-fn word_of(
-    rt: &HostRuntime,
-    kind: u8,
-    constant: u16,
-    known: bool,
-) -> Result<(u32, u16), OutOfMemory> {
-    let mut graph = graph_of(rt)?;
-    let x = mk_byte(&mut graph, 0)?;
-    let y = mk_const(&mut graph, constant)?;
-    let c = mk_known(&mut graph, known)?;
-    let id = made_word(&mut graph, kind, x, y, c)?;
-    let _node = graph.word_at(id);
-    let mut scratch = Scratch::for_graph(rt.alloc(), &graph)?;
-    let value = graph.value_word(id, &inputs_of(rt, 0xC3)?, &mut scratch);
-    Ok((id.number(), value))
-}
-
-#[test]
-fn words_are_folded_and_keep_their_values(rt: HostRuntime) -> Result<(), Fail> {
-    // the byte has number 0, the constant 1, the bit 2, and a new node 3
-    for (kind, constant, known, number, value) in [
-        (0, 0xFFFE, true, 3, 0xFF3C),
-        (1, 0x000F, true, 3, 0x0003),
-        (1, 0xFFFF, true, 0, 0x00C3),
-        (1, 0x0000, true, 1, 0x0000),
-        (2, 0xFFFE, true, 3, 0xFFFF),
-        (2, 0x0000, true, 0, 0x00C3),
-        (3, 0xFFFE, true, 3, 0xFF3D),
-        (4, 0xFFFE, true, 3, 0x00C2),
-        (4, 0x0000, false, 0, 0x00C3),
-        (5, 0xFFFE, true, 3, 0x00C4),
-        (5, 0x0000, false, 0, 0x00C3),
-        (6, 0xFFFE, true, 0, 0x00C3),
-        (6, 0xFFFE, false, 1, 0xFFFE),
-        (7, 0xFFFE, true, 3, 0x8000),
-        (8, 0xFFFE, true, 3, 0x0001),
-        (9, 0xFFFE, true, 3, 0xFFFF),
-        (9, 0x0000, true, 1, 0x0000),
-        (10, 0xFFFE, true, 3, 0xFCF4),
-        (11, 0x0402, true, 3, 0x1234),
-        (12, 0x0000, true, 1, 0x0000),
-        (13, 0x0000, true, 1, 0x0000),
-        (14, 0x0000, true, 3, 0x0007),
-    ] {
-        assert_eq!(rt;
-            word_of(&rt, kind, constant, known)?,
-            (number, value),
-            "kind {kind}"
-        );
-    }
-    Ok(())
-}
-
-/// A bit by a constructor of two words and two bits.
-fn made_bit(
-    graph: &mut Graph,
-    kind: u8,
-    x: WordId,
-    y: WordId,
-    c: BitId,
-    d: BitId,
-) -> Result<BitId, OutOfMemory>
-    requires x { HasWord graph.old x }
-    requires y { HasWord graph.old y }
-    requires c { HasBit graph.old c }
-    requires d { HasBit graph.old d }
-    requires room { length graph.old.nodes < 2 ^ 31 }
-    ensures { IfOk result (HasBit graph.new) }
-{
-    match kind {
-        0 => mk_pick(graph, x, 9),
-        1 => mk_notb(graph, d),
-        2 => mk_andb(graph, c, d),
-        3 => mk_orb(graph, c, d),
-        4 => mk_xorb(graph, c, d),
-        5 => mk_iteb(graph, d, c, d),
-        6 => mk_same(graph, x, y),
-        7 => mk_carry(graph, x, y, c),
-        _ => mk_borrow(graph, x, y, c),
-    }
-}
-
-/// The number and the value of a bit over the byte C3, the word FFFE, a known bit and the byte's bit 2.
-fn bit_of(rt: &HostRuntime, kind: u8, known: bool) -> Result<(u32, bool), OutOfMemory> {
-    let mut graph = graph_of(rt)?;
-    let x = mk_byte(&mut graph, 0)?;
-    let y = mk_const(&mut graph, 0xFFFE)?;
-    let c = mk_known(&mut graph, known)?;
-    let d = mk_pick(&mut graph, x, 2)?;
-    let id = made_bit(&mut graph, kind, x, y, c, d)?;
-    let _node = graph.bit_at(id);
-    let mut scratch = Scratch::for_graph(rt.alloc(), &graph)?;
-    let value = graph.value_bit(id, &inputs_of(rt, 0xC3)?, &mut scratch);
-    Ok((id.number(), value))
-}
-
-#[test]
-fn bits_are_folded_and_keep_their_values(rt: HostRuntime) -> Result<(), Fail> {
-    // the byte has number 0, the constant 1, the known bit 2, the byte's bit 3, and a new node 4
-    for (kind, known, number, value) in [
-        (0, false, 2, false),
-        (1, true, 4, true),
-        (2, true, 3, false),
-        (2, false, 2, false),
-        (3, true, 2, true),
-        (3, false, 3, false),
-        (4, true, 4, true),
-        (4, false, 3, false),
-        (5, true, 3, false),
-        (6, true, 4, false),
-        (7, true, 4, true),
-        (8, true, 4, true),
-    ] {
-        assert_eq!(rt; bit_of(&rt, kind, known)?, (number, value), "kind {kind}");
-    }
-    Ok(())
 }
 
 /// The result of an addition to the byte C3 with all flags clear, and its carry.
@@ -197,5 +46,83 @@ fn sum_of_bytes(rt: &HostRuntime) -> Result<(u16, bool), OutOfMemory> {
 #[test]
 fn operations_work_under_all_inputs(rt: HostRuntime) -> Result<(), Fail> {
     assert_eq!(rt; sum_of_bytes(&rt)?, (0x00C1, true));
+    Ok(())
+}
+
+/// The value of a word under inputs with a first byte.
+fn value_of(rt: &HostRuntime, graph: &Graph, id: WordId, byte: u8) -> Result<u16, OutOfMemory>
+    requires { HasWord graph.now id }
+{
+    let _node = graph.word_at(id);
+    let mut scratch = Scratch::for_graph(rt.alloc(), graph)?;
+    Ok(graph.value_word(id, &inputs_of(rt, byte)?, &mut scratch))
+}
+
+fn entry(ram: &[WordId], place: usize) -> WordId
+    requires { place < length ram.now }
+    ensures { result ≡ word_in ram.now place }
+{
+    ram[place]
+}
+
+/// The constants 0 to 255, whose numbers are these too.
+fn constants(rt: &HostRuntime, graph: &mut Graph) -> Result<Vec<WordId>, OutOfMemory>
+    requires { graph.old.nodes ≡ [] }
+    ensures len { IfOk result (λ words. length words.items ≡ 256) }
+    ensures there { IfOk result (λ words. HasWords graph.new words.items) }
+    ensures few { IfOk result (λ _. length graph.new.nodes ≤ 256) }
+{
+    let mut words = Vec::with_capacity(rt.alloc(), 256)?;
+    for at in 0..256u16 {
+        let word = mk_const(graph, at)?;
+        words.push(word)?;
+    }
+    Ok(words)
+}
+
+/// Entries of a RAM of these constants: at a byte of 7F, and 2 and 3 after a store at a byte of 02.
+fn ram_at_bytes(rt: &HostRuntime) -> Result<[u16; 3], OutOfMemory> {
+    let mut graph = graph_of(rt)?;
+    let mut ram = constants(rt, &mut graph)?;
+    let dp = mk_byte(&mut graph, 0)?;
+    let nine = mk_const(&mut graph, 9)?;
+    let read = ram_select(&mut graph, rt.alloc(), &ram, dp)?;
+    ram_store(&mut graph, rt.alloc(), &mut ram, dp, nine)?;
+    Ok([
+        value_of(rt, &graph, read, 0x7F)?,
+        value_of(rt, &graph, entry(&ram, 2), 0x02)?,
+        value_of(rt, &graph, entry(&ram, 3), 0x02)?,
+    ])
+}
+
+/// What a store of 9 at 20 leaves in shared pages of these constants: the values of the entry and of that of a
+/// merge, and the numbers of the entry that was shared and of two others.
+fn shared_pages(rt: &HostRuntime) -> Result<([u16; 2], [u32; 3]), OutOfMemory> {
+    let mut graph = graph_of(rt)?;
+    let words = constants(rt, &mut graph)?;
+    let mut first = Pages::from_list(rt.alloc(), &words)?;
+    let second = first.share()?;
+    let nine = mk_const(&mut graph, 9)?;
+    let place = mk_const(&mut graph, 0x20)?;
+    pages_store(&mut graph, rt.alloc(), &mut first, place, nine)?;
+    let read = pages_select(&mut graph, rt.alloc(), &first, place)?;
+    let yes = mk_known(&mut graph, true)?;
+    let both = pages_merge(&mut graph, rt.alloc(), yes, &first, &second)?;
+    let values = [
+        value_of(rt, &graph, read, 0)?,
+        value_of(rt, &graph, both.get(0x20), 0)?,
+    ];
+    let numbers = [
+        second.get(0x20).number(),
+        first.get(0x21).number(),
+        first.get(0xFF).number(),
+    ];
+    Ok((values, numbers))
+}
+
+#[test]
+fn ram_keeps_what_is_stored(rt: HostRuntime) -> Result<(), Fail> {
+    assert_eq!(rt; ram_at_bytes(&rt)?, [0x007F, 0x0009, 0x0003]);
+    assert_eq!(rt; shared_pages(&rt)?, ([9, 9], [0x20, 0x21, 0xFF]));
     Ok(())
 }
