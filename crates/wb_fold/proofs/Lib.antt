@@ -1,4 +1,3 @@
-pub mod WordLaws
 pub mod Growth
 pub mod SignLaws
 pub mod ShiftLaws
