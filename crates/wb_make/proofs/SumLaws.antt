@@ -1,0 +1,52 @@
+-- The laws of sums and differences of words.
+use Rattle.std.proofs.Common.{◌≡◌, ℕ, ◌+◌, ◌-◌, ◌*◌, ◌/◌, ◌%◌, ◌≤◌, ◌<◌, ◌^◌, ◌==◌, not, nat_lt, Bool, true, false, refl, sym, ap, ◌∙◌, arith, bit_and, bit_or, bit_xor}
+use Rattle.std.proofs.Math.Nat.{mod-eq_of_lt}
+use lib.Bits.{or_disjoint, or_lt, or_add_and, xor_add_and}
+use Rattle.wb_term.specs.Numbers.{bit, cut, less}
+use Rattle.wb_make.specs.Bits.{bit_of}
+
+pub sum_not : (x y : ℕ) (c : Bool) → x < 65536 → y < 65536 → cut (x + (65535 - y) + bit c) ≡ less x (y + bit (not c))
+sum_not x y true h k = omega arith
+sum_not x y false h k = omega arith
+
+pub diff_not : (x y : ℕ) (c : Bool) → x < 65536 → y < 65536 → less x (65535 - y + bit c) ≡ cut (x + y + bit (not c))
+diff_not x y true h k = omega arith
+diff_not x y false h k = omega arith
+
+-- a difference in two steps: with the other word turned over, and then one more
+pub sum_not_and_one : (x y : ℕ) → x < 65536 → y < 65536 → cut (cut (x + (65535 - y) + 0) + 1 + 0) ≡ less x (y + 0)
+sum_not_and_one x y h k = omega arith
+
+pub diff_and_one : (x y : ℕ) → x < 65536 → y < 65536 → cut (less x (y + 1) + 1 + 0) ≡ less x (y + 0)
+diff_and_one x y h k = omega arith
+
+-- to add a negated word is to take it away
+pub sum_negated : (x y : ℕ) → x < 65536 → y < 65536 → cut (x + less 0 (y + 0) + 0) ≡ less x (y + 0)
+sum_negated x y h k = omega arith
+
+pub sum_turned_and_one : (x y : ℕ) → x < 65536 → y < 65536 → cut (x + cut (65535 - y + 1 + 0) + 0) ≡ less x (y + 0)
+sum_turned_and_one x y h k = omega arith
+
+pub doubled : (x : ℕ) → cut (x + x + 0) ≡ cut (x * 2 ^ 1)
+doubled x = omega arith
+
+pub sum_apart : (x y : ℕ) → x < 65536 → y < 65536 → bit_and x y ≡ 0 → cut (x + y + 0) ≡ bit_or x y
+sum_apart x y h k apart =
+    let e = or_disjoint x y apart in
+    let l = or_lt 16 x y h k in
+    omega (arith, e, l)
+
+pub or_and_sum : (x y : ℕ) → cut (bit_or x y + bit_and x y + 0) ≡ cut (x + y + 0)
+or_and_sum x y = omega (arith, or_add_and x y)
+
+pub xor_and_sum : (x y : ℕ) → cut (bit_xor x y + cut (bit_and x y * 2 ^ 1) + 0) ≡ cut (x + y + 0)
+xor_and_sum x y = let e = xor_add_and x y in omega (arith, e)
+
+-- a word and itself are over 65535 where its highest bit is set
+pub carry_of_doubled : (x : ℕ) (c : Bool) → x < 65536 → nat_lt 65535 (x + x + bit c) ≡ bit_of x 15
+carry_of_doubled x true h = grind arith
+carry_of_doubled x false h = grind arith
+
+pub borrow_of_same : (x : ℕ) (c : Bool) → nat_lt x (x + bit c) ≡ c
+borrow_of_same x true = grind arith
+borrow_of_same x false = grind arith
