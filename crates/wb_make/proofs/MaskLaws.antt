@@ -1,5 +1,5 @@
 -- The laws of masks: which bits a word keeps, and what two masks leave.
-use Rattle.std.proofs.Common.{◌≡◌, ℕ, ◌+◌, ◌-◌, ◌*◌, ◌/◌, ◌%◌, ◌≤◌, ◌<◌, ◌^◌, min, max, refl, sym, ap, ◌∙◌, arith, bit_and, bit_or, bit_xor, add-zero, subst}
+use Rattle.std.proofs.Common.{◌≡◌, ℕ, ◌+◌, ◌-◌, ◌*◌, ◌/◌, ◌%◌, ◌≤◌, ◌<◌, ◌^◌, Bool, true, false, if◌then◌else◌, min, max, refl, sym, ap, ◌∙◌, arith, bit_and, bit_or, bit_xor, add-zero, subst}
 use Rattle.std.specs.Int.{bit_at}
 use Rattle.std.proofs.lemmas.Nat.{and_assoc, and_shr, and_mod, and_mask, and_le_l, and_le_r, pow_pos, field_of, shl-shr}
 use Rattle.std.proofs.lemmas.Nat.Bits.{bit_at_and, bit_at_or, bit_at_xor, bit_at-lt, same_from_bits, and_high_mask, ones_shl, ones_shr}
@@ -96,3 +96,9 @@ masks_merge v p q = and_assoc q v p
 -- a word is at most the mask that keeps it
 pub at_most : (v p : ℕ) → bit_and v p ≡ v → v ≤ p
 at_most v p h = let most = and_le_r v p in omega (arith, h, most)
+
+pub choice_keeps : (b : Bool) (v w p q : ℕ) → bit_and v p ≡ v → bit_and w q ≡ w → bit_and (if b then v else w) (bit_or p q) ≡ (if b then v else w)
+choice_keeps true v w p q h k = first_keeps v p q h
+choice_keeps false v w p q h k = second_keeps w p q k
+
+pub ruleset mask_views = (and_comm, high_bits, low_bits)

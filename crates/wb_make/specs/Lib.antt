@@ -1,3 +1,4 @@
 pub mod Inputs
+pub mod Forms
 pub mod Bits
 pub mod Masks

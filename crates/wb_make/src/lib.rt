@@ -8,7 +8,9 @@
 
 mod bits;
 mod comparisons;
+mod forms;
 mod leaves;
+mod masks;
 mod shifts;
 mod sums;
 mod words;
