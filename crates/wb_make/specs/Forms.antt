@@ -8,9 +8,9 @@ use Rattle.wb_term.specs.Terms.{Terms, HasWord, HasBit, IsWordPlaced, IsBitPlace
 use Rattle.wb_term.specs.Values.{word_value, bit_value, word_node_value, bit_node_value}
 use Rattle.wb_term.specs.Under.{HasOnly}
 use Rattle.wb_make.specs.declared.forms.WordForm.{WordForm}
-use Rattle.wb_make.specs.declared.forms.WordForm.TheVariants.{OldWord, NewWord}
+use Rattle.wb_make.specs.declared.forms.WordForm.TheVariants.{Old as OldWord, New as NewWord}
 use Rattle.wb_make.specs.declared.forms.BitForm.{BitForm}
-use Rattle.wb_make.specs.declared.forms.BitForm.TheVariants.{OldBit, NewBit}
+use Rattle.wb_make.specs.declared.forms.BitForm.TheVariants.{Old as OldBit, New as NewBit}
 
 -- the value that the node has, or will have
 abbrev pub word_form_value : Assignment → Terms → WordForm → ℕ

@@ -9,15 +9,15 @@ use wb_term::{BitId, BitNode, Graph, OutOfMemory, WordId, WordNode};
 /// What a constructor of words decides on.
 #[derive(Clone, Copy)]
 pub(crate) enum WordForm {
-    OldWord(WordId),
-    NewWord(WordNode),
+    Old(WordId),
+    New(WordNode),
 }
 
 /// What a constructor of bits decides on.
 #[derive(Clone, Copy)]
 pub(crate) enum BitForm {
-    OldBit(BitId),
-    NewBit(BitNode),
+    Old(BitId),
+    New(BitNode),
 }
 
 /// The number of the node that was decided on.
@@ -30,8 +30,8 @@ pub(crate) fn make_word(graph: &mut Graph, form: WordForm) -> Result<WordId, Out
     ensures adds { AddsAtMost graph.old graph.new 1 (word_form_weight form) }
 {
     match form {
-        WordForm::OldWord(id) => Ok(id),
-        WordForm::NewWord(node) => graph.word(node),
+        WordForm::Old(id) => Ok(id),
+        WordForm::New(node) => graph.word(node),
     }
 }
 
@@ -45,7 +45,7 @@ pub(crate) fn make_bit(graph: &mut Graph, form: BitForm) -> Result<BitId, OutOfM
     ensures adds { AddsAtMost graph.old graph.new 1 (bit_form_weight form) }
 {
     match form {
-        BitForm::OldBit(id) => Ok(id),
-        BitForm::NewBit(node) => graph.bit(node),
+        BitForm::Old(id) => Ok(id),
+        BitForm::New(node) => graph.bit(node),
     }
 }

@@ -8,9 +8,12 @@
 
 mod bits;
 mod comparisons;
+mod conjunctions;
+mod disjunctions;
 mod forms;
 mod leaves;
 mod masks;
+mod parts;
 mod shifts;
 mod sums;
 mod words;
