@@ -1,7 +1,7 @@
 ghost use Rattle.std.specs.Prelude.{◌≡◌, ◌-◌, ◌≤◌, true, bit_and, bit_or, bit_xor, [], ◌∷◌, IfSome};
 ghost use Rattle.wb_term.specs.Inputs.{Assignment, IsAssignment};
 ghost use Rattle.wb_term.specs.Terms.{HasWord};
-ghost use Rattle.wb_term.specs.Values.{word_value};
+ghost use Rattle.wb_term.specs.Values.{IsWord, word_value};
 ghost use Rattle.wb_make.specs.Masks.{AreApart};
 ghost use Rattle.wb_make.specs.Forms.{WordMeans, IsWordReady, StandsOn, word_form_numbers, word_form_weight};
 
@@ -56,6 +56,23 @@ pub(crate) fn kept_part(graph: &Graph, x: WordId, mask: u16) -> Option<WordForm>
     match graph.find_word(WordNode::Const(mask)) {
         Some(y) if y.number() < x.number() => Some(WordForm::New(WordNode::And(y, x))),
         Some(y) => Some(WordForm::New(WordNode::And(x, y))),
+        None => None,
+    }
+}
+
+/// What a mask leaves of a word, where a node stands for it. It takes no memory.
+#[tactic(auto, using(crate::proofs::WordLaws::and_comm))]
+pub(crate) fn standing_part(graph: &Graph, x: WordId, mask: u16) -> Option<WordId>
+    requires x { HasWord graph.now x }
+    ensures value { IfSome result (λ id. IsWord graph.now id (λ inputs. bit_and (word_value inputs graph.now x) mask)) }
+    ensures inputs { IfSome result (λ id. StandsOn graph.now (x.number ∷ []) (id.number ∷ [])) }
+{
+    if is_kept(graph, x, mask) {
+        return Some(x);
+    }
+    match graph.find_word(WordNode::Const(mask)) {
+        Some(y) if y.number() < x.number() => graph.find_word(WordNode::And(y, x)),
+        Some(y) => graph.find_word(WordNode::And(x, y)),
         None => None,
     }
 }
