@@ -27,6 +27,15 @@ sum_negated x y h k = omega arith
 pub sum_turned_and_one : (x y : ℕ) → x < 65536 → y < 65536 → cut (x + cut (65535 - y + 1 + 0) + 0) ≡ less x (y + 0)
 sum_turned_and_one x y h k = omega arith
 
+pub sum_less : (x y : ℕ) → x < 65536 → y < 65536 → cut (x + less 0 y + 0) ≡ less x (y + 0)
+sum_less x y h k = omega arith
+
+pub diff_less : (x y : ℕ) → x < 65536 → y < 65536 → less x (less 0 y + 0) ≡ cut (x + y + 0)
+diff_less x y h k = omega arith
+
+pub not_and_one : (y : ℕ) → y < 65536 → cut (65535 - y + 1 + 0) ≡ less 0 (y + 0)
+not_and_one y h = omega arith
+
 pub doubled : (x : ℕ) → cut (x + x + 0) ≡ cut (x * 2 ^ 1)
 doubled x = omega arith
 
@@ -36,10 +45,10 @@ sum_apart x y h k apart =
     let l = or_lt 16 x y h k in
     omega (arith, e, l)
 
-pub or_and_sum : (x y : ℕ) → cut (bit_or x y + bit_and x y + 0) ≡ cut (x + y + 0)
-or_and_sum x y = omega (arith, or_add_and x y)
+pub or_and_sum : (x y : ℕ) → cut (bit_or x y + bit_and x y) ≡ cut (x + y)
+or_and_sum x y = ap cut (or_add_and x y)
 
-pub xor_and_sum : (x y : ℕ) → cut (bit_xor x y + cut (bit_and x y * 2 ^ 1) + 0) ≡ cut (x + y + 0)
+pub xor_and_sum : (x y : ℕ) → cut (bit_xor x y + cut (bit_and x y * 2 ^ 1)) ≡ cut (x + y)
 xor_and_sum x y = let e = xor_add_and x y in omega (arith, e)
 
 -- a word and itself are over 65535 where its highest bit is set
@@ -50,3 +59,13 @@ carry_of_doubled x false h = grind arith
 pub borrow_of_same : (x : ℕ) (c : Bool) → nat_lt x (x + bit c) ≡ c
 borrow_of_same x true = grind arith
 borrow_of_same x false = grind arith
+
+pub ruleset sum_laws = (sum_not, sum_less)
+
+pub ruleset diff_laws = (diff_not, diff_less)
+
+pub ruleset one_more_laws = (sum_not_and_one, diff_and_one, not_and_one)
+
+pub ruleset bare_sum_laws = (doubled, sum_apart)
+
+pub ruleset rebuilt_laws = (or_and_sum, xor_and_sum)

@@ -6,7 +6,9 @@
 //! and `comparisons` the other bits.
 #![tactic(auto)]
 
+mod addends;
 mod bits;
+mod choices;
 mod comparisons;
 mod conjunctions;
 mod disjunctions;
@@ -20,11 +22,12 @@ mod sums;
 mod words;
 
 pub use bits::{mk_andb, mk_iteb, mk_notb, mk_orb, mk_pick, mk_xorb};
+pub use choices::mk_ite;
 pub use comparisons::{mk_borrow, mk_carry, mk_same};
 pub use leaves::{mk_byte, mk_cell, mk_const, mk_known};
 pub use products::{mk_high, mk_look, mk_low};
 pub use shifts::{mk_shl, mk_shr};
-pub use sums::{mk_diff, mk_ite, mk_sum};
+pub use sums::{mk_diff, mk_sum};
 pub use wb_term::OutOfMemory;
 pub use words::{mk_and, mk_not, mk_or, mk_xor};
 
