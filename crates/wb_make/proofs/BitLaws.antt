@@ -73,3 +73,5 @@ bit_of_shl_low v k m h l = ap (λ (n : ℕ). n == 1)
 pub bit_of_shl_high : (v k m : ℕ) → k ≤ m → m < 16 → bit_of (cut (v * 2 ^ k)) m ≡ bit_of v (m - k)
 bit_of_shl_high v k m h l = ap (λ (n : ℕ). n == 1)
     (bit_at_cut (v * 2 ^ k) m l ∙ ap (λ (n : ℕ). bit_at n m) (sym (add-zero (v * 2 ^ k))) ∙ bit_at_cat_high v k 0 m (pow_pos k) h)
+
+pub ruleset source_laws = (bit_of_and, bit_of_or, bit_of_xor, bit_of_not, bit_of_past, bit_of_byte, bit_of_shr, bit_of_shl_low, bit_of_shl_high)

@@ -3,3 +3,4 @@ pub mod MaskLaws
 pub mod ShiftLaws
 pub mod BitLaws
 pub mod SumLaws
+pub mod TruthLaws
