@@ -1,5 +1,5 @@
 -- The laws of one bit of a word.
-use Rattle.std.proofs.Common.{◌≡◌, ℕ, zero, suc, ◌+◌, ◌-◌, ◌*◌, ◌/◌, ◌%◌, ◌≤◌, ◌<◌, ◌^◌, ◌==◌, ◌&&◌, ◌||◌, not, min, max, Bool, true, false, refl, sym, ap, ◌∙◌, arith, bit_and, bit_or, bit_xor, subst, add-zero}
+use Rattle.std.proofs.Common.{◌≡◌, ℕ, zero, suc, ◌+◌, ◌-◌, ◌*◌, ◌/◌, ◌%◌, ◌≤◌, ◌<◌, ◌^◌, ◌==◌, ◌&&◌, ◌||◌, not, min, max, false, refl, sym, ap, ◌∙◌, arith, bit_and, bit_or, bit_xor, add-zero}
 use Rattle.std.specs.Bool.{beq}
 use Rattle.std.specs.Int.{bit_at, w16}
 use Rattle.std.proofs.lemmas.Nat.{shr-shr, pow_pos}

@@ -4,3 +4,4 @@ pub mod ShiftLaws
 pub mod BitLaws
 pub mod SumLaws
 pub mod TruthLaws
+pub mod BoundLaws

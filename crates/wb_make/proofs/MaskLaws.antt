@@ -1,5 +1,5 @@
 -- The laws of masks: which bits a word keeps, and what two masks leave.
-use Rattle.std.proofs.Common.{◌≡◌, ℕ, ◌+◌, ◌-◌, ◌*◌, ◌/◌, ◌%◌, ◌≤◌, ◌<◌, ◌^◌, Bool, true, false, if◌then◌else◌, min, max, refl, sym, ap, ◌∙◌, arith, bit_and, bit_or, bit_xor, add-zero, subst}
+use Rattle.std.proofs.Common.{◌≡◌, ℕ, ◌+◌, ◌-◌, ◌*◌, ◌/◌, ◌%◌, ◌≤◌, ◌<◌, ◌^◌, Bool, true, false, if◌then◌else◌, min, sym, ap, ◌∙◌, arith, bit_and, bit_or, bit_xor, add-zero, subst}
 use Rattle.std.specs.Int.{bit_at}
 use Rattle.std.proofs.lemmas.Nat.{and_assoc, and_shr, and_mod, and_mask, and_le_l, and_le_r, pow_pos, field_of, shl-shr}
 use Rattle.std.proofs.lemmas.Nat.Bits.{bit_at_and, bit_at_or, bit_at_xor, bit_at-lt, same_from_bits, and_high_mask, ones_shl, ones_shr}

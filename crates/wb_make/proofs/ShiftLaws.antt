@@ -1,7 +1,6 @@
 -- The laws of shifts: one after another, and past the width.
-use Rattle.std.proofs.Common.{◌≡◌, ℕ, ◌+◌, ◌-◌, ◌*◌, ◌/◌, ◌%◌, ◌≤◌, ◌<◌, ◌^◌, refl, sym, ap, ◌∙◌, arith, bit_and, lit<}
+use Rattle.std.proofs.Common.{◌≡◌, ℕ, ◌+◌, ◌*◌, ◌/◌, ◌<◌, ◌^◌, sym, ap, ◌∙◌, arith, bit_and}
 use Rattle.std.proofs.lemmas.Nat.{pow-add, shr-shr, mul-mod_first}
-use Rattle.std.proofs.Math.Nat.{div-eq_of_lt, pow-le-pow_right}
 use lib.Bits.{and_zero_r}
 use Rattle.wb_term.specs.Numbers.{cut}
 use Rattle.wb_make.proofs.MaskLaws.{shl_keeps, shr_keeps}

@@ -1,6 +1,5 @@
 -- The laws of sums and differences of words.
-use Rattle.std.proofs.Common.{◌≡◌, ℕ, ◌+◌, ◌-◌, ◌*◌, ◌/◌, ◌%◌, ◌≤◌, ◌<◌, ◌^◌, ◌==◌, not, nat_lt, Bool, true, false, refl, sym, ap, ◌∙◌, arith, bit_and, bit_or, bit_xor}
-use Rattle.std.proofs.Math.Nat.{mod-eq_of_lt}
+use Rattle.std.proofs.Common.{◌≡◌, ℕ, ◌+◌, ◌-◌, ◌*◌, ◌<◌, ◌^◌, not, nat_lt, Bool, true, false, ap, arith, bit_and, bit_or, bit_xor}
 use lib.Bits.{or_disjoint, or_lt, or_add_and, xor_add_and}
 use Rattle.wb_term.specs.Numbers.{bit, cut, less}
 use Rattle.wb_make.specs.Bits.{bit_of}

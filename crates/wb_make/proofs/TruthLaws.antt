@@ -1,5 +1,5 @@
 -- The laws of bits that the rules of bits rest on.
-use Rattle.std.proofs.Common.{◌≡◌, not, ◌&&◌, ◌||◌, if◌then◌else◌, Bool, true, false, refl}
+use Rattle.std.proofs.Common.{◌≡◌, not, ◌&&◌, ◌||◌, Bool, true, false, refl}
 use Rattle.std.specs.Bool.{beq}
 
 pub and_of_part : (c d : Bool) → (c && d) ≡ c → (d && c) ≡ c

@@ -1,7 +1,7 @@
 -- What a constructor decides on: an older node, or one of a kind, which it then makes.
-use Rattle.std.specs.Prelude.{◌≡◌, ℕ, Bool, true, false, List, [], ◌∷◌}
+use Rattle.std.specs.Prelude.{◌≡◌, ℕ, Bool, false, List, [], ◌∷◌}
 use Rattle.wb_term.specs.declared.nodes.Node.{Node}
-use Rattle.wb_term.specs.declared.nodes.Node.TheVariants.{Word, Bit}
+use Rattle.wb_term.specs.declared.nodes.Node.TheVariants.{Word}
 use Rattle.wb_term.specs.Nodes.{Each, is_input, word_children, bit_children, word_weight, bit_weight}
 use Rattle.wb_term.specs.Inputs.{Assignment, IsAssignment}
 use Rattle.wb_term.specs.Terms.{Terms, HasWord, HasBit, IsWordPlaced, IsBitPlaced}

@@ -8,6 +8,7 @@
 
 mod addends;
 mod bits;
+mod bounds;
 mod choices;
 mod comparisons;
 mod conjunctions;

@@ -1,5 +1,4 @@
-use Rattle.std.proofs.Common.{◌≡◌, arith, rules, sym}
-use Rattle.wb_term.specs.Values.{word_value}
+use Rattle.std.proofs.Common.{◌≡◌, rules, sym}
 use Rattle.wb_make.proofs.SumLaws.{or_and_sum}
 use Rattle.wb_make.proofs.addends.rebuilt.Goals as goal
 
