@@ -1,8 +1,8 @@
 -- The laws of sums and differences of words.
-use Rattle.std.proofs.Common.{◌≡◌, ℕ, ◌+◌, ◌-◌, ◌*◌, ◌<◌, ◌^◌, not, nat_lt, Bool, true, false, ap, arith, bit_and, bit_or, bit_xor}
-use lib.Bits.{or_disjoint, or_lt, or_add_and, xor_add_and}
+use Rattle.std.proofs.Common.{◌≡◌, ℕ, ◌+◌, ◌-◌, ◌*◌, ◌==◌, ◌<◌, ◌^◌, not, nat_lt, Bool, true, false, refl, sym, arith, bit_and, bit_or}
+use lib.Bits.{or_disjoint, or_lt}
 use Rattle.wb_term.specs.Numbers.{bit, cut, less}
-use Rattle.wb_make.specs.Bits.{bit_of}
+use Rattle.wb_known.specs.Bits.{bit_of}
 
 pub sum_not : (x y : ℕ) (c : Bool) → x < 65536 → y < 65536 → cut (x + (65535 - y) + bit c) ≡ less x (y + bit (not c))
 sum_not x y true h k = omega arith
@@ -44,12 +44,6 @@ sum_apart x y h k apart =
     let l = or_lt 16 x y h k in
     omega (arith, e, l)
 
-pub or_and_sum : (x y : ℕ) → cut (bit_or x y + bit_and x y) ≡ cut (x + y)
-or_and_sum x y = ap cut (or_add_and x y)
-
-pub xor_and_sum : (x y : ℕ) → cut (bit_xor x y + cut (bit_and x y * 2 ^ 1)) ≡ cut (x + y)
-xor_and_sum x y = let e = xor_add_and x y in omega (arith, e)
-
 -- a word and itself are over 65535 where its highest bit is set
 pub carry_of_doubled : (x : ℕ) (c : Bool) → x < 65536 → nat_lt 65535 (x + x + bit c) ≡ bit_of x 15
 carry_of_doubled x true h = grind arith
@@ -67,4 +61,9 @@ pub ruleset one_more_laws = (sum_not_and_one, diff_and_one, not_and_one)
 
 pub ruleset bare_sum_laws = (doubled, sum_apart)
 
-pub ruleset rebuilt_laws = (or_and_sum, xor_and_sum)
+same_if : (v w : ℕ) → (b : Bool) → (v == w) ≡ b → (w == v) ≡ b
+same_if v w true e = let s : v ≡ w = grind arith in grind arith
+same_if v w false e = grind arith
+
+pub same_comm : (v w : ℕ) → (v == w) ≡ (w == v)
+same_comm v w = sym (same_if v w (v == w) refl)

@@ -44,36 +44,6 @@ product_zero_r x = product_comm x 0 ∙ product_zero_l x
 
 pub ruleset product_laws = (product_zero_l, product_zero_r, product_comm)
 
--- a word shares no bit with its opposite, and both together have all
-pub and_opposite : (v : ℕ) → v < 65536 → bit_and (65535 - v) v ≡ 0
-and_opposite v h = let e = and-not 16 v v h h in let s = and_self v in omega (arith, e, s)
-
-pub or_opposite : (v : ℕ) → v < 65536 → bit_or (65535 - v) v ≡ 65535
-or_opposite v h = let e = and_opposite v h in let s = or_add_and (65535 - v) v in omega (arith, e, s)
-
-pub and_opposite_r : (v : ℕ) → v < 65536 → bit_and v (65535 - v) ≡ 0
-and_opposite_r v h = and_comm v (65535 - v) ∙ and_opposite v h
-
-pub or_opposite_r : (v : ℕ) → v < 65536 → bit_or v (65535 - v) ≡ 65535
-or_opposite_r v h = or_comm v (65535 - v) ∙ or_opposite v h
-
-pub ruleset opposite_laws = (and_opposite, or_opposite, and_opposite_r, or_opposite_r)
-
--- what a word's mask keeps, or with others joined
-pub and_part_l : (v w : ℕ) → bit_and (bit_and v w) v ≡ bit_and v w
-and_part_l v w = and_comm (bit_and v w) v ∙ sym (and_assoc w v v) ∙ ap (λ (n : ℕ). bit_and n w) (and_self v)
-
-pub and_part_r : (v w : ℕ) → bit_and (bit_and v w) w ≡ bit_and v w
-and_part_r v w = and_assoc w v w ∙ ap (bit_and v) (and_self w)
-
-pub or_part_r : (v w : ℕ) → bit_and w (bit_or v w) ≡ w
-or_part_r v w = and_comm w (bit_or v w) ∙ and_or_self w v
-
-pub or_part_l : (v w : ℕ) → bit_and v (bit_or v w) ≡ v
-or_part_l v w = ap (bit_and v) (or_comm v w) ∙ or_part_r w v
-
-pub ruleset part_laws = (and_self, and_part_l, and_part_r, or_part_l, or_part_r)
-
 -- a word joined with one that has all its bits
 pub or_of_part : (v w : ℕ) → bit_and v w ≡ v → bit_or v w ≡ w
 or_of_part v w h = let s = or_add_and v w in omega (arith, h, s)

@@ -1,12 +1,10 @@
 -- What a constructor decides on: an older node, or one of a kind, which it then makes.
 use Rattle.std.specs.Prelude.{◌≡◌, ℕ, Bool, false, List, [], ◌∷◌}
-use Rattle.wb_term.specs.declared.nodes.Node.{Node}
 use Rattle.wb_term.specs.declared.nodes.Node.TheVariants.{Word}
-use Rattle.wb_term.specs.Nodes.{Each, is_input, word_children, bit_children, word_weight, bit_weight}
+use Rattle.wb_term.specs.Nodes.{is_input, word_children, bit_children, word_weight, bit_weight}
 use Rattle.wb_term.specs.Inputs.{Assignment, IsAssignment}
 use Rattle.wb_term.specs.Terms.{Terms, HasWord, HasBit, IsWordPlaced, IsBitPlaced}
 use Rattle.wb_term.specs.Values.{word_value, bit_value, word_node_value, bit_node_value}
-use Rattle.wb_term.specs.Under.{HasOnly}
 use Rattle.wb_make.specs.declared.forms.WordForm.{WordForm}
 use Rattle.wb_make.specs.declared.forms.WordForm.TheVariants.{Old as OldWord, New as NewWord}
 use Rattle.wb_make.specs.declared.forms.BitForm.{BitForm}
@@ -47,10 +45,6 @@ word_form_weight (NewWord n) = word_weight n
 abbrev pub bit_form_weight : BitForm → ℕ
 bit_form_weight (OldBit id) = 0
 bit_form_weight (NewBit n) = bit_weight n
-
--- Only input nodes under the given numbers stand under the others.
-abbrev pub StandsOn : Terms → List ℕ → List ℕ → Type 0
-StandsOn g given numbers = (allowed : Node → Bool) → Each (HasOnly g allowed) given → Each (HasOnly g allowed) numbers
 
 -- the value under all inputs
 abbrev pub WordMeans : Terms → WordForm → (Assignment → ℕ) → Type 0

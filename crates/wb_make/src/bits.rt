@@ -5,10 +5,11 @@ ghost use Rattle.wb_term.specs.Terms.{HasWord, HasBit};
 ghost use Rattle.wb_term.specs.Values.{IsBit, word_value, bit_value};
 ghost use Rattle.wb_term.specs.Growth.{Grown, AddsAtMost};
 ghost use Rattle.wb_make.specs.Inputs.{BringsOnly};
-ghost use Rattle.wb_make.specs.Forms.{BitMeans, IsBitReady, StandsOn, bit_form_numbers, bit_form_weight};
+ghost use Rattle.wb_known.specs.Stands.{StandsOn};
+ghost use Rattle.wb_make.specs.Forms.{BitMeans, IsBitReady, bit_form_numbers, bit_form_weight};
 
-use crate::addends::opposite;
 use crate::forms::{BitForm, make_bit};
+use wb_known::{are_opposite_bits, implies, opposite};
 use wb_term::{BitId, BitNode, Graph, OutOfMemory};
 
 /// The other bit.
@@ -97,36 +98,6 @@ pub(crate) fn notb_form(graph: &Graph, c: BitId) -> BitForm
         BitNode::Known(value) => BitForm::New(BitNode::Known(!value)),
         BitNode::NotB(inner) => BitForm::Old(inner),
         _ => BitForm::New(BitNode::NotB(c)),
-    }
-}
-
-/// Whether a bit is set wherever another is not clear, as their nodes tell it.
-fn implies(graph: &Graph, c: BitId, d: BitId) -> bool
-    requires c { HasBit graph.now c }
-    requires d { HasBit graph.now d }
-    ensures { result ≡ true → (inputs : Assignment) → IsAssignment inputs →
-        (bit_value inputs graph.now c && bit_value inputs graph.now d) ≡ bit_value inputs graph.now c }
-{
-    match (graph.bit_at(c), graph.bit_at(d)) {
-        _ if c == d => true,
-        (BitNode::Known(false), _) | (_, BitNode::Known(true)) => true,
-        (BitNode::AndB(a, b), _) if a == d || b == d => true,
-        (_, BitNode::OrB(a, b)) => a == c || b == c,
-        _ => false,
-    }
-}
-
-/// Whether one bit is the other turned over, as their nodes tell it.
-fn are_opposite_bits(graph: &Graph, c: BitId, d: BitId) -> bool
-    requires c { HasBit graph.now c }
-    requires d { HasBit graph.now d }
-    ensures { result ≡ true → (inputs : Assignment) → IsAssignment inputs →
-        bit_value inputs graph.now c ≡ not (bit_value inputs graph.now d) }
-{
-    match (graph.bit_at(c), graph.bit_at(d)) {
-        (BitNode::NotB(inner), _) if inner == d => true,
-        (_, BitNode::NotB(inner)) => inner == c,
-        _ => false,
     }
 }
 

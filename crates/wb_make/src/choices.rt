@@ -4,7 +4,8 @@ ghost use Rattle.wb_term.specs.Terms.{HasWord, HasBit};
 ghost use Rattle.wb_term.specs.Values.{IsWord, word_value, bit_value};
 ghost use Rattle.wb_term.specs.Growth.{Grown, AddsAtMost};
 ghost use Rattle.wb_make.specs.Inputs.{BringsOnly};
-ghost use Rattle.wb_make.specs.Forms.{WordMeans, IsWordReady, StandsOn, word_form_numbers, word_form_weight};
+ghost use Rattle.wb_known.specs.Stands.{StandsOn};
+ghost use Rattle.wb_make.specs.Forms.{WordMeans, IsWordReady, word_form_numbers, word_form_weight};
 
 use crate::forms::{WordForm, make_word};
 use wb_term::{BitId, BitNode, Graph, OutOfMemory, WordId, WordNode};

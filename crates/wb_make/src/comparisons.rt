@@ -4,11 +4,12 @@ ghost use Rattle.wb_term.specs.Terms.{HasWord, HasBit};
 ghost use Rattle.wb_term.specs.Values.{IsBit, word_value, bit_value};
 ghost use Rattle.wb_term.specs.Growth.{Grown, AddsAtMost};
 ghost use Rattle.wb_make.specs.Inputs.{BringsOnly};
-ghost use Rattle.wb_make.specs.Forms.{BitMeans, IsBitReady, StandsOn, bit_form_numbers, bit_form_weight};
+ghost use Rattle.wb_known.specs.Stands.{StandsOn};
+ghost use Rattle.wb_make.specs.Forms.{BitMeans, IsBitReady, bit_form_numbers, bit_form_weight};
 
-use crate::bounds::{can_be, compared, is_always_below, is_never_below, never_carries};
 use crate::forms::{BitForm, make_bit};
 use crate::picks::pick_form;
+use wb_known::{can_be, compared, is_always_below, is_never_below, never_carries};
 use wb_term::{BitId, BitNode, Graph, OutOfMemory, WordId, WordNode, borrows, carries};
 
 /// Whether two words are equal.
@@ -72,7 +73,7 @@ fn same_form(graph: &Graph, x: WordId, y: WordId) -> BitForm
 }
 
 /// Whether two words are equal, of which none is a difference.
-#[tactic(auto, using(crate::proofs::BoundLaws::same_laws))]
+#[tactic(auto, using(crate::proofs::SumLaws::same_comm))]
 fn simple_same(graph: &Graph, x: WordId, y: WordId) -> BitForm
     requires x { HasWord graph.now x }
     requires y { HasWord graph.now y }

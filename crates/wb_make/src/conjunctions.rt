@@ -2,11 +2,11 @@ ghost use Rattle.std.specs.Prelude.{◌≡◌, ◌-◌, ◌≤◌, true, bit_and
 ghost use Rattle.wb_term.specs.Inputs.{Assignment, IsAssignment};
 ghost use Rattle.wb_term.specs.Terms.{HasWord};
 ghost use Rattle.wb_term.specs.Values.{word_value};
-ghost use Rattle.wb_make.specs.Forms.{WordMeans, IsWordReady, StandsOn, word_form_numbers, word_form_weight};
+ghost use Rattle.wb_known.specs.Stands.{StandsOn};
+ghost use Rattle.wb_make.specs.Forms.{WordMeans, IsWordReady, word_form_numbers, word_form_weight};
 
 use crate::forms::WordForm;
-use crate::masks::{are_apart, is_cleared, mask_of};
-use crate::parts::{are_opposite, is_part, kept_part};
+use wb_known::{are_apart, are_opposite, is_cleared, is_kept, is_part, mask_of};
 use wb_term::{Graph, WordId, WordNode};
 
 /// The bits that two words share.
@@ -83,5 +83,24 @@ fn ordered_and(graph: &Graph, x: WordId, y: WordId) -> WordForm
         WordForm::New(WordNode::And(y, x))
     } else {
         WordForm::New(WordNode::And(x, y))
+    }
+}
+
+/// What a mask leaves of a word, where one node more does for it: the word itself, or a node of a constant that stands.
+#[tactic(auto, using(crate::proofs::WordLaws::and_comm))]
+pub(crate) fn kept_part(graph: &Graph, x: WordId, mask: u16) -> Option<WordForm>
+    requires x { HasWord graph.now x }
+    ensures value { IfSome result (λ form. WordMeans graph.now form (λ inputs. bit_and (word_value inputs graph.now x) mask)) }
+    ensures ready { IfSome result (λ form. IsWordReady graph.now form) }
+    ensures inputs { IfSome result (λ form. StandsOn graph.now (x.number ∷ []) (word_form_numbers form)) }
+    ensures light { IfSome result (λ form. word_form_weight form ≤ 16) }
+{
+    if is_kept(graph, x, mask) {
+        return Some(WordForm::Old(x));
+    }
+    match graph.find_word(WordNode::Const(mask)) {
+        Some(y) if y.number() < x.number() => Some(WordForm::New(WordNode::And(y, x))),
+        Some(y) => Some(WordForm::New(WordNode::And(x, y))),
+        None => None,
     }
 }

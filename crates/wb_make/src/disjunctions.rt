@@ -2,12 +2,13 @@ ghost use Rattle.std.specs.Prelude.{◌≡◌, ◌-◌, ◌≤◌, true, bit_and
 ghost use Rattle.wb_term.specs.Inputs.{Assignment, IsAssignment};
 ghost use Rattle.wb_term.specs.Terms.{HasWord};
 ghost use Rattle.wb_term.specs.Values.{word_value};
-ghost use Rattle.wb_make.specs.Forms.{WordMeans, IsWordReady, StandsOn, word_form_numbers, word_form_weight};
+ghost use Rattle.wb_known.specs.Stands.{StandsOn};
+ghost use Rattle.wb_make.specs.Forms.{WordMeans, IsWordReady, word_form_numbers, word_form_weight};
 
+use crate::conjunctions::kept_part;
 use crate::forms::WordForm;
-use crate::masks::{are_apart, is_kept, mask_of};
-use crate::parts::{are_opposite, is_part, kept_part};
 use crate::words::not_form;
+use wb_known::{are_apart, are_opposite, is_kept, is_part, mask_of};
 use wb_term::{Graph, WordId, WordNode};
 
 /// The bits that one of two words has.

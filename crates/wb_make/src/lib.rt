@@ -6,17 +6,13 @@
 //! and `comparisons` the other bits.
 #![tactic(auto)]
 
-mod addends;
 mod bits;
-mod bounds;
 mod choices;
 mod comparisons;
 mod conjunctions;
 mod disjunctions;
 mod forms;
 mod leaves;
-mod masks;
-mod parts;
 mod picks;
 mod products;
 mod shifts;

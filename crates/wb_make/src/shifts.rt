@@ -4,11 +4,13 @@ ghost use Rattle.wb_term.specs.Terms.{HasWord};
 ghost use Rattle.wb_term.specs.Values.{IsWord, word_value};
 ghost use Rattle.wb_term.specs.Growth.{Grown, AddsAtMost};
 ghost use Rattle.wb_make.specs.Inputs.{BringsOnly};
-ghost use Rattle.wb_make.specs.Forms.{WordMeans, IsWordReady, StandsOn, word_form_numbers, word_form_weight};
+ghost use Rattle.wb_known.specs.Stands.{StandsOn};
+ghost use Rattle.wb_make.specs.Forms.{WordMeans, IsWordReady, word_form_numbers, word_form_weight};
 
 use crate::forms::{WordForm, make_word};
-use crate::masks::{possible_bits, shifted_left};
-use crate::parts::standing_part;
+use wb_known::{
+    is_shifted_out_left, is_shifted_out_right, shifted_left, standing_shl, standing_shr,
+};
 use wb_term::{Graph, OutOfMemory, WordId, WordNode};
 
 /// A word shifted to the left, filled with zeros.
@@ -52,20 +54,15 @@ pub(crate) fn shl_form(graph: &Graph, x: WordId, m: u8) -> WordForm
     match graph.word_at(x) {
         _ if m == 0 => WordForm::Old(x),
         WordNode::Const(value) => WordForm::New(WordNode::Const(shifted_left(value, m))),
-        _ if shifted_left(possible_bits(graph, x), m) == 0 => WordForm::New(WordNode::Const(0)),
+        _ if is_shifted_out_left(graph, x, m) => WordForm::New(WordNode::Const(0)),
         WordNode::Shl(inner, count) if count < 16 - m => WordForm::New(WordNode::Shl(
             inner,
             count + m,
         )),
-        WordNode::Shr(inner, count) if count == m => match standing_part(
-            graph,
-            inner,
-            shifted_left(0xFFFF, m),
-        ) {
+        _ => match standing_shl(graph, x, m) {
             Some(part) => WordForm::Old(part),
             None => WordForm::New(WordNode::Shl(x, m)),
         },
-        _ => WordForm::New(WordNode::Shl(x, m)),
     }
 }
 
@@ -82,19 +79,14 @@ pub(crate) fn shr_form(graph: &Graph, x: WordId, m: u8) -> WordForm
     match graph.word_at(x) {
         _ if m == 0 => WordForm::Old(x),
         WordNode::Const(value) => WordForm::New(WordNode::Const(value >> m)),
-        _ if possible_bits(graph, x) >> m == 0 => WordForm::New(WordNode::Const(0)),
+        _ if is_shifted_out_right(graph, x, m) => WordForm::New(WordNode::Const(0)),
         WordNode::Shr(inner, count) if count < 16 - m => WordForm::New(WordNode::Shr(
             inner,
             count + m,
         )),
-        WordNode::Shl(inner, count) if count == m => match standing_part(
-            graph,
-            inner,
-            0xFFFF >> m,
-        ) {
+        _ => match standing_shr(graph, x, m) {
             Some(part) => WordForm::Old(part),
             None => WordForm::New(WordNode::Shr(x, m)),
         },
-        _ => WordForm::New(WordNode::Shr(x, m)),
     }
 }

@@ -3,7 +3,8 @@ ghost use Rattle.wb_term.specs.Terms.{HasWord};
 ghost use Rattle.wb_term.specs.Values.{IsWord, word_value};
 ghost use Rattle.wb_term.specs.Growth.{Grown, AddsAtMost};
 ghost use Rattle.wb_make.specs.Inputs.{BringsOnly};
-ghost use Rattle.wb_make.specs.Forms.{WordMeans, IsWordReady, StandsOn, word_form_numbers, word_form_weight};
+ghost use Rattle.wb_known.specs.Stands.{StandsOn};
+ghost use Rattle.wb_make.specs.Forms.{WordMeans, IsWordReady, word_form_numbers, word_form_weight};
 
 use crate::conjunctions::and_form;
 use crate::disjunctions::{or_form, xor_form};

@@ -1,5 +1,0 @@
-use Rattle.wb_make.proofs.BoundLaws.{excluded}
-use Rattle.wb_make.proofs.bounds.can_be.Goals as goal
-
-pub returns : goal.returns
-returns c e inputs is = excluded _ _ _ (c.possible_bits.ensures.keeps inputs is) e

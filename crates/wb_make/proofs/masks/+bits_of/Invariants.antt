@@ -1,4 +1,0 @@
-use Rattle.wb_make.proofs.masks.+bits_of.Given as goal
-
-abbrev pub decreases-bits_of : goal.decreases-bits_of
-decreases-bits_of l = l.levels
