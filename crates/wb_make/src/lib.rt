@@ -29,6 +29,3 @@ pub use shifts::{mk_shl, mk_shr};
 pub use sums::{mk_diff, mk_sum};
 pub use wb_term::OutOfMemory;
 pub use words::{mk_and, mk_not, mk_or, mk_xor};
-
-#[cfg(test)]
-mod tests;
