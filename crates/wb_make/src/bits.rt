@@ -106,7 +106,7 @@ pub(crate) fn notb_form(graph: &Graph, c: BitId) -> BitForm
 fn andb_form(graph: &Graph, c: BitId, d: BitId) -> BitForm
     requires c { HasBit graph.now c }
     requires d { HasBit graph.now d }
-    ensures value { BitMeans graph.now result (λ inputs. (bit_value inputs graph.now c) && (bit_value inputs graph.now d)) }
+    ensures value { BitMeans graph.now result (λ inputs. bit_value inputs graph.now c && bit_value inputs graph.now d) }
     ensures ready { IsBitReady graph.now result }
     ensures inputs { StandsOn graph.now (c.number ∷ d.number ∷ []) (bit_form_numbers result) }
     ensures light { bit_form_weight result ≤ 1 }
@@ -132,7 +132,7 @@ fn andb_form(graph: &Graph, c: BitId, d: BitId) -> BitForm
 fn orb_form(graph: &Graph, c: BitId, d: BitId) -> BitForm
     requires c { HasBit graph.now c }
     requires d { HasBit graph.now d }
-    ensures value { BitMeans graph.now result (λ inputs. (bit_value inputs graph.now c) || (bit_value inputs graph.now d)) }
+    ensures value { BitMeans graph.now result (λ inputs. bit_value inputs graph.now c || bit_value inputs graph.now d) }
     ensures ready { IsBitReady graph.now result }
     ensures inputs { StandsOn graph.now (c.number ∷ d.number ∷ []) (bit_form_numbers result) }
     ensures light { bit_form_weight result ≤ 1 }
@@ -199,7 +199,7 @@ fn iteb_form(graph: &Graph, c: BitId, d: BitId, e: BitId) -> BitForm
     requires c { HasBit graph.now c }
     requires d { HasBit graph.now d }
     requires e { HasBit graph.now e }
-    ensures value { BitMeans graph.now result (λ inputs. if (bit_value inputs graph.now c) then (bit_value inputs graph.now d) else (bit_value inputs graph.now e)) }
+    ensures value { BitMeans graph.now result (λ inputs. if bit_value inputs graph.now c then bit_value inputs graph.now d else bit_value inputs graph.now e) }
     ensures ready { IsBitReady graph.now result }
     ensures inputs { StandsOn graph.now (c.number ∷ d.number ∷ e.number ∷ []) (bit_form_numbers result) }
     ensures light { bit_form_weight result ≤ 1 }
@@ -218,7 +218,7 @@ fn chosen_bit(graph: &Graph, c: BitId, d: BitId, e: BitId) -> BitForm
     requires c { HasBit graph.now c }
     requires d { HasBit graph.now d }
     requires e { HasBit graph.now e }
-    ensures value { BitMeans graph.now result (λ inputs. if (bit_value inputs graph.now c) then (bit_value inputs graph.now d) else (bit_value inputs graph.now e)) }
+    ensures value { BitMeans graph.now result (λ inputs. if bit_value inputs graph.now c then bit_value inputs graph.now d else bit_value inputs graph.now e) }
     ensures ready { IsBitReady graph.now result }
     ensures inputs { StandsOn graph.now (c.number ∷ d.number ∷ e.number ∷ []) (bit_form_numbers result) }
     ensures light { bit_form_weight result ≤ 1 }
@@ -242,7 +242,7 @@ fn turned_choice(graph: &Graph, c: BitId, d: BitId, e: BitId) -> BitForm
     requires c { HasBit graph.now c }
     requires d { HasBit graph.now d }
     requires e { HasBit graph.now e }
-    ensures value { BitMeans graph.now result (λ inputs. if (bit_value inputs graph.now c) then (bit_value inputs graph.now d) else (bit_value inputs graph.now e)) }
+    ensures value { BitMeans graph.now result (λ inputs. if bit_value inputs graph.now c then bit_value inputs graph.now d else bit_value inputs graph.now e) }
     ensures ready { IsBitReady graph.now result }
     ensures inputs { StandsOn graph.now (c.number ∷ d.number ∷ e.number ∷ []) (bit_form_numbers result) }
     ensures light { bit_form_weight result ≤ 1 }
@@ -264,7 +264,7 @@ fn related(graph: &Graph, c: BitId, d: BitId, e: BitId) -> BitForm
     requires c { HasBit graph.now c }
     requires d { HasBit graph.now d }
     requires e { HasBit graph.now e }
-    ensures value { BitMeans graph.now result (λ inputs. if (bit_value inputs graph.now c) then (bit_value inputs graph.now d) else (bit_value inputs graph.now e)) }
+    ensures value { BitMeans graph.now result (λ inputs. if bit_value inputs graph.now c then bit_value inputs graph.now d else bit_value inputs graph.now e) }
     ensures ready { IsBitReady graph.now result }
     ensures inputs { StandsOn graph.now (c.number ∷ d.number ∷ e.number ∷ []) (bit_form_numbers result) }
     ensures light { bit_form_weight result ≤ 1 }

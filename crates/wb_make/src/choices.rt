@@ -31,7 +31,7 @@ fn ite_form(graph: &Graph, c: BitId, x: WordId, y: WordId) -> WordForm
     requires c { HasBit graph.now c }
     requires x { HasWord graph.now x }
     requires y { HasWord graph.now y }
-    ensures value { WordMeans graph.now result (λ inputs. if (bit_value inputs graph.now c) then (word_value inputs graph.now x) else (word_value inputs graph.now y)) }
+    ensures value { WordMeans graph.now result (λ inputs. if bit_value inputs graph.now c then word_value inputs graph.now x else word_value inputs graph.now y) }
     ensures ready { IsWordReady graph.now result }
     ensures inputs { StandsOn graph.now (c.number ∷ x.number ∷ y.number ∷ []) (word_form_numbers result) }
     ensures light { word_form_weight result ≤ 16 }
@@ -49,7 +49,7 @@ fn chosen(graph: &Graph, c: BitId, x: WordId, y: WordId) -> WordForm
     requires c { HasBit graph.now c }
     requires x { HasWord graph.now x }
     requires y { HasWord graph.now y }
-    ensures value { WordMeans graph.now result (λ inputs. if (bit_value inputs graph.now c) then (word_value inputs graph.now x) else (word_value inputs graph.now y)) }
+    ensures value { WordMeans graph.now result (λ inputs. if bit_value inputs graph.now c then word_value inputs graph.now x else word_value inputs graph.now y) }
     ensures ready { IsWordReady graph.now result }
     ensures inputs { StandsOn graph.now (c.number ∷ x.number ∷ y.number ∷ []) (word_form_numbers result) }
     ensures light { word_form_weight result ≤ 16 }

@@ -63,7 +63,7 @@ pub fn mk_borrow(graph: &mut Graph, x: WordId, y: WordId, c: BitId) -> Result<Bi
 fn same_form(graph: &Graph, x: WordId, y: WordId) -> BitForm
     requires x { HasWord graph.now x }
     requires y { HasWord graph.now y }
-    ensures value { BitMeans graph.now result (λ inputs. (word_value inputs graph.now x) == (word_value inputs graph.now y)) }
+    ensures value { BitMeans graph.now result (λ inputs. word_value inputs graph.now x == word_value inputs graph.now y) }
     ensures ready { IsBitReady graph.now result }
     ensures inputs { StandsOn graph.now (x.number ∷ y.number ∷ []) (bit_form_numbers result) }
     ensures light { bit_form_weight result ≤ 32 }
@@ -77,7 +77,7 @@ fn same_form(graph: &Graph, x: WordId, y: WordId) -> BitForm
 fn simple_same(graph: &Graph, x: WordId, y: WordId) -> BitForm
     requires x { HasWord graph.now x }
     requires y { HasWord graph.now y }
-    ensures value { BitMeans graph.now result (λ inputs. (word_value inputs graph.now x) == (word_value inputs graph.now y)) }
+    ensures value { BitMeans graph.now result (λ inputs. word_value inputs graph.now x == word_value inputs graph.now y) }
     ensures ready { IsBitReady graph.now result }
     ensures inputs { StandsOn graph.now (x.number ∷ y.number ∷ []) (bit_form_numbers result) }
     ensures light { bit_form_weight result ≤ 32 }
@@ -102,7 +102,7 @@ fn carry_form(graph: &Graph, x: WordId, y: WordId, c: BitId) -> BitForm
     requires x { HasWord graph.now x }
     requires y { HasWord graph.now y }
     requires c { HasBit graph.now c }
-    ensures value { BitMeans graph.now result (λ inputs. nat_lt 65535 ((word_value inputs graph.now x) + (word_value inputs graph.now y) + bit (bit_value inputs graph.now c))) }
+    ensures value { BitMeans graph.now result (λ inputs. nat_lt 65535 (word_value inputs graph.now x + word_value inputs graph.now y + bit (bit_value inputs graph.now c))) }
     ensures ready { IsBitReady graph.now result }
     ensures inputs { StandsOn graph.now (x.number ∷ y.number ∷ c.number ∷ []) (bit_form_numbers result) }
     ensures light { bit_form_weight result ≤ 32 }
@@ -124,7 +124,7 @@ fn borrow_form(graph: &Graph, x: WordId, y: WordId, c: BitId) -> BitForm
     requires x { HasWord graph.now x }
     requires y { HasWord graph.now y }
     requires c { HasBit graph.now c }
-    ensures value { BitMeans graph.now result (λ inputs. nat_lt (word_value inputs graph.now x) ((word_value inputs graph.now y) + bit (bit_value inputs graph.now c))) }
+    ensures value { BitMeans graph.now result (λ inputs. nat_lt (word_value inputs graph.now x) (word_value inputs graph.now y + bit (bit_value inputs graph.now c))) }
     ensures ready { IsBitReady graph.now result }
     ensures inputs { StandsOn graph.now (x.number ∷ y.number ∷ c.number ∷ []) (bit_form_numbers result) }
     ensures light { bit_form_weight result ≤ 32 }

@@ -37,6 +37,9 @@ fn with_mask(graph: &Graph, x: WordId, y: WordId, mask: u16) -> WordForm
     ensures inputs { StandsOn graph.now (x.number ∷ y.number ∷ []) (word_form_numbers result) }
     ensures light { word_form_weight result ≤ 16 }
 {
+    if is_kept(graph, x, mask) {
+        return WordForm::Old(x);
+    }
     if is_cleared(graph, x, mask) {
         return WordForm::New(WordNode::Const(0));
     }

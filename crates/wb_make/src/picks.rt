@@ -35,7 +35,7 @@ pub fn mk_pick(graph: &mut Graph, x: WordId, m: u8) -> Result<BitId, OutOfMemory
 pub(crate) fn pick_form(graph: &Graph, x: WordId, m: u8) -> BitForm
     requires x { HasWord graph.now x }
     requires count { m < 16 }
-    ensures value { BitMeans graph.now result (λ inputs. (word_value inputs graph.now x) / 2 ^ m % 2 == 1) }
+    ensures value { BitMeans graph.now result (λ inputs. word_value inputs graph.now x / 2 ^ m % 2 == 1) }
     ensures ready { IsBitReady graph.now result }
     ensures inputs { StandsOn graph.now (x.number ∷ []) (bit_form_numbers result) }
     ensures light { bit_form_weight result ≤ 0 }

@@ -46,7 +46,7 @@ pub fn mk_shr(graph: &mut Graph, x: WordId, m: u8) -> Result<WordId, OutOfMemory
 pub(crate) fn shl_form(graph: &Graph, x: WordId, m: u8) -> WordForm
     requires x { HasWord graph.now x }
     requires count { m < 16 }
-    ensures value { WordMeans graph.now result (λ inputs. cut ((word_value inputs graph.now x) * 2 ^ m)) }
+    ensures value { WordMeans graph.now result (λ inputs. cut (word_value inputs graph.now x * 2 ^ m)) }
     ensures ready { IsWordReady graph.now result }
     ensures inputs { StandsOn graph.now (x.number ∷ []) (word_form_numbers result) }
     ensures light { word_form_weight result ≤ 0 }
@@ -71,7 +71,7 @@ pub(crate) fn shl_form(graph: &Graph, x: WordId, m: u8) -> WordForm
 pub(crate) fn shr_form(graph: &Graph, x: WordId, m: u8) -> WordForm
     requires x { HasWord graph.now x }
     requires count { m < 16 }
-    ensures value { WordMeans graph.now result (λ inputs. (word_value inputs graph.now x) / 2 ^ m) }
+    ensures value { WordMeans graph.now result (λ inputs. word_value inputs graph.now x / 2 ^ m) }
     ensures ready { IsWordReady graph.now result }
     ensures inputs { StandsOn graph.now (x.number ∷ []) (word_form_numbers result) }
     ensures light { word_form_weight result ≤ 0 }

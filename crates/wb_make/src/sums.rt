@@ -51,7 +51,7 @@ fn sum_form(graph: &Graph, x: WordId, y: WordId, c: BitId) -> WordForm
     requires x { HasWord graph.now x }
     requires y { HasWord graph.now y }
     requires c { HasBit graph.now c }
-    ensures value { WordMeans graph.now result (λ inputs. cut ((word_value inputs graph.now x) + (word_value inputs graph.now y) + bit (bit_value inputs graph.now c))) }
+    ensures value { WordMeans graph.now result (λ inputs. cut (word_value inputs graph.now x + word_value inputs graph.now y + bit (bit_value inputs graph.now c))) }
     ensures ready { IsWordReady graph.now result }
     ensures inputs { StandsOn graph.now (x.number ∷ y.number ∷ c.number ∷ []) (word_form_numbers result) }
     ensures light { word_form_weight result ≤ 48 }
@@ -71,7 +71,7 @@ fn diff_form(graph: &Graph, x: WordId, y: WordId, c: BitId) -> WordForm
     requires x { HasWord graph.now x }
     requires y { HasWord graph.now y }
     requires c { HasBit graph.now c }
-    ensures value { WordMeans graph.now result (λ inputs. less (word_value inputs graph.now x) ((word_value inputs graph.now y) + bit (bit_value inputs graph.now c))) }
+    ensures value { WordMeans graph.now result (λ inputs. less (word_value inputs graph.now x) (word_value inputs graph.now y + bit (bit_value inputs graph.now c))) }
     ensures ready { IsWordReady graph.now result }
     ensures inputs { StandsOn graph.now (x.number ∷ y.number ∷ c.number ∷ []) (word_form_numbers result) }
     ensures light { word_form_weight result ≤ 48 }
@@ -95,7 +95,7 @@ fn as_difference(graph: &Graph, x: WordId, y: WordId, c: BitId) -> Option<WordFo
     requires x { HasWord graph.now x }
     requires y { HasWord graph.now y }
     requires c { HasBit graph.now c }
-    ensures value { IfSome result (λ form. WordMeans graph.now form (λ inputs. cut ((word_value inputs graph.now x) + (word_value inputs graph.now y) + bit (bit_value inputs graph.now c)))) }
+    ensures value { IfSome result (λ form. WordMeans graph.now form (λ inputs. cut (word_value inputs graph.now x + word_value inputs graph.now y + bit (bit_value inputs graph.now c)))) }
     ensures ready { IfSome result (λ form. IsWordReady graph.now form) }
     ensures inputs { IfSome result (λ form. StandsOn graph.now (x.number ∷ y.number ∷ c.number ∷ []) (word_form_numbers form)) }
     ensures light { IfSome result (λ form. word_form_weight form ≤ 48) }
@@ -122,7 +122,7 @@ fn one_more(graph: &Graph, x: WordId, y: WordId, c: BitId) -> Option<WordForm>
     requires c { HasBit graph.now c }
     requires one { (inputs : Assignment) → IsAssignment inputs → word_value inputs graph.now y ≡ 1 }
     requires no_carry { (inputs : Assignment) → IsAssignment inputs → bit_value inputs graph.now c ≡ false }
-    ensures value { IfSome result (λ form. WordMeans graph.now form (λ inputs. cut ((word_value inputs graph.now x) + (word_value inputs graph.now y) + bit (bit_value inputs graph.now c)))) }
+    ensures value { IfSome result (λ form. WordMeans graph.now form (λ inputs. cut (word_value inputs graph.now x + word_value inputs graph.now y + bit (bit_value inputs graph.now c)))) }
     ensures ready { IfSome result (λ form. IsWordReady graph.now form) }
     ensures inputs { IfSome result (λ form. StandsOn graph.now (x.number ∷ y.number ∷ c.number ∷ []) (word_form_numbers form)) }
     ensures light { IfSome result (λ form. word_form_weight form ≤ 48) }
@@ -158,7 +158,7 @@ fn simple_sum(graph: &Graph, x: WordId, y: WordId, c: BitId) -> WordForm
     requires x { HasWord graph.now x }
     requires y { HasWord graph.now y }
     requires c { HasBit graph.now c }
-    ensures value { WordMeans graph.now result (λ inputs. cut ((word_value inputs graph.now x) + (word_value inputs graph.now y) + bit (bit_value inputs graph.now c))) }
+    ensures value { WordMeans graph.now result (λ inputs. cut (word_value inputs graph.now x + word_value inputs graph.now y + bit (bit_value inputs graph.now c))) }
     ensures ready { IsWordReady graph.now result }
     ensures inputs { StandsOn graph.now (x.number ∷ y.number ∷ c.number ∷ []) (word_form_numbers result) }
     ensures light { word_form_weight result ≤ 48 }
@@ -179,7 +179,7 @@ fn bare_sum(graph: &Graph, x: WordId, y: WordId, c: BitId) -> WordForm
     requires y { HasWord graph.now y }
     requires c { HasBit graph.now c }
     requires no_carry { (inputs : Assignment) → IsAssignment inputs → bit_value inputs graph.now c ≡ false }
-    ensures value { WordMeans graph.now result (λ inputs. cut ((word_value inputs graph.now x) + (word_value inputs graph.now y) + bit (bit_value inputs graph.now c))) }
+    ensures value { WordMeans graph.now result (λ inputs. cut (word_value inputs graph.now x + word_value inputs graph.now y + bit (bit_value inputs graph.now c))) }
     ensures ready { IsWordReady graph.now result }
     ensures inputs { StandsOn graph.now (x.number ∷ y.number ∷ c.number ∷ []) (word_form_numbers result) }
     ensures light { word_form_weight result ≤ 48 }
@@ -205,7 +205,7 @@ fn ordered_sum(graph: &Graph, x: WordId, y: WordId, c: BitId) -> WordForm
     requires x { HasWord graph.now x }
     requires y { HasWord graph.now y }
     requires c { HasBit graph.now c }
-    ensures value { WordMeans graph.now result (λ inputs. cut ((word_value inputs graph.now x) + (word_value inputs graph.now y) + bit (bit_value inputs graph.now c))) }
+    ensures value { WordMeans graph.now result (λ inputs. cut (word_value inputs graph.now x + word_value inputs graph.now y + bit (bit_value inputs graph.now c))) }
     ensures ready { IsWordReady graph.now result }
     ensures inputs { StandsOn graph.now (x.number ∷ y.number ∷ c.number ∷ []) (word_form_numbers result) }
     ensures light { word_form_weight result ≤ 48 }
@@ -222,7 +222,7 @@ fn simple_difference(graph: &Graph, x: WordId, y: WordId, c: BitId) -> WordForm
     requires x { HasWord graph.now x }
     requires y { HasWord graph.now y }
     requires c { HasBit graph.now c }
-    ensures value { WordMeans graph.now result (λ inputs. less (word_value inputs graph.now x) ((word_value inputs graph.now y) + bit (bit_value inputs graph.now c))) }
+    ensures value { WordMeans graph.now result (λ inputs. less (word_value inputs graph.now x) (word_value inputs graph.now y + bit (bit_value inputs graph.now c))) }
     ensures ready { IsWordReady graph.now result }
     ensures inputs { StandsOn graph.now (x.number ∷ y.number ∷ c.number ∷ []) (word_form_numbers result) }
     ensures light { word_form_weight result ≤ 48 }

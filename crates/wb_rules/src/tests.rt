@@ -133,6 +133,7 @@ fn words_are_folded(rt: HostRuntime) -> Result<(), Fail> {
         (0x0000, [Keep, Keep, Keep, And(T, U)], 4),
         (0x0000, [Keep, Keep, Shl(T, 8), And(A, U)], 2),
         (0x0FFF, [Keep, And(Z, U), And(Z, Y), And(A, U)], 9),
+        (0x0FFF, [Keep, Shl(Z, 8), Shr(A, 8), And(Y, A)], 10),
         (0xFF00, [Keep, And(Z, Y), And(Z, U), Or(A, B)], 0),
         (0x0FFF, [And(Z, Y), Keep, And(Z, U), Or(A, B)], 9),
         // a constant joined with what it has, and a constant that changes nothing or all
