@@ -1,11 +1,13 @@
 -- The laws of words that the folding rules rest on.
-use Rattle.std.proofs.Common.{◌≡◌, ℕ, ◌-◌, ◌/◌, ◌≤◌, ◌<◌, ◌^◌, ℤ, pos, ap, ◌∙◌, arith, bit_and, bit_or, bit_xor, lit<}
+use Rattle.std.proofs.Common.{◌≡◌, ℕ, ◌-◌, ◌/◌, ◌≤◌, ◌<◌, ◌^◌, ℤ, pos, sym, ap, ◌∙◌, arith, bit_and, bit_or, bit_xor, lit<}
 use Rattle.std.proofs.Math.Nat.{mod-eq_of_lt, div-eq_of_lt, pow-le-pow_right}
 use Rattle.std.specs.Prelude.{◌*ℤ◌, unsigned_abs}
 use Rattle.std.specs.Int.{int_rem_euclid}
 use lib.IntN.{zero-*ℤ, *ℤ_comm}
 use Rattle.wb_term.specs.Numbers.{product, signed}
-use lib.Bits.{and_self, or_self, xor_self, and_zero_l, and_zero_r, or_zero_l, or_zero_r, xor_zero_l, xor_zero_r, and_comm, or_comm, xor_comm, and_mask, or_add_and, xor_add_and}
+use Rattle.std.proofs.lemmas.Nat.{and_assoc, and_or_self, and-not}
+pub use lib.Bits.{and_comm, or_comm, xor_comm}
+use lib.Bits.{and_self, or_self, xor_self, and_zero_l, and_zero_r, or_zero_l, or_zero_r, xor_zero_l, xor_zero_r, and_mask, or_add_and, xor_add_and, xor_assoc}
 
 pub and_ones_r : (v : ℕ) → v < 65536 → bit_and v 65535 ≡ v
 and_ones_r v h = and_mask v 16 ∙ mod-eq_of_lt h
@@ -42,8 +44,20 @@ product_zero_r x = product_comm x 0 ∙ product_zero_l x
 
 pub ruleset product_laws = (product_zero_l, product_zero_r, product_comm)
 
-pub ruleset and_laws = (and_self, and_zero_l, and_zero_r, and_ones_l, and_ones_r, and_comm)
+-- a word joined with one that has all its bits
+pub or_of_part : (v w : ℕ) → bit_and v w ≡ v → bit_or v w ≡ w
+or_of_part v w h = let s = or_add_and v w in omega (arith, h, s)
 
-pub ruleset or_laws = (or_self, or_zero_l, or_zero_r, or_ones_l, or_ones_r, or_comm)
+-- words apart differ in the bits that one of them has
+pub xor_apart : (v w : ℕ) → bit_and v w ≡ 0 → bit_xor v w ≡ bit_or v w
+xor_apart v w h = let s = or_add_and v w in let t = xor_add_and v w in omega (arith, h, s, t)
 
-pub ruleset xor_laws = (xor_self, xor_zero_l, xor_zero_r, xor_ones_l, xor_ones_r, xor_comm)
+-- to change the same bits twice changes nothing
+pub xor_twice : (v w : ℕ) → bit_xor v (bit_xor v w) ≡ w
+xor_twice v w = sym (xor_assoc v v w) ∙ ap (λ (n : ℕ). bit_xor n w) (xor_self v) ∙ xor_zero_l w
+
+pub ruleset and_laws = (and_comm)
+
+pub ruleset or_laws = (or_zero_l, or_zero_r, or_of_part, or_comm)
+
+pub ruleset xor_laws = (xor_self, xor_zero_l, xor_zero_r, xor_ones_l, xor_ones_r, xor_apart, xor_twice, xor_comm)

@@ -1,11 +1,15 @@
-ghost use Rattle.std.specs.Prelude.{◌≡◌, ◌+◌, ◌<◌, ◌^◌, ◌==◌, nat_lt, [], ◌∷◌, IfOk, length};
+ghost use Rattle.std.specs.Prelude.{◌≡◌, ◌+◌, ◌<◌, ◌≤◌, ◌^◌, ◌==◌, nat_lt, [], ◌∷◌, IfOk, length};
 ghost use Rattle.wb_term.specs.Numbers.{bit};
 ghost use Rattle.wb_term.specs.Terms.{HasWord, HasBit};
 ghost use Rattle.wb_term.specs.Values.{IsBit, word_value, bit_value};
 ghost use Rattle.wb_term.specs.Growth.{Grown, AddsAtMost};
 ghost use Rattle.wb_make.specs.Inputs.{BringsOnly};
+ghost use Rattle.wb_known.specs.Stands.{StandsOn};
+ghost use Rattle.wb_make.specs.Forms.{BitMeans, IsBitReady, bit_form_numbers, bit_form_weight};
 
-use crate::leaves::mk_known;
+use crate::forms::{BitForm, make_bit};
+use crate::picks::pick_form;
+use wb_known::{can_be, compared, is_always_below, is_never_below, never_carries};
 use wb_term::{BitId, BitNode, Graph, OutOfMemory, WordId, WordNode, borrows, carries};
 
 /// Whether two words are equal.
@@ -19,14 +23,8 @@ pub fn mk_same(graph: &mut Graph, x: WordId, y: WordId) -> Result<BitId, OutOfMe
     ensures grown { Grown graph.old graph.new }
     ensures adds { AddsAtMost graph.old graph.new 1 32 }
 {
-    if x == y {
-        return mk_known(graph, true);
-    }
-    match (graph.word_at(x), graph.word_at(y)) {
-        (WordNode::Const(a), WordNode::Const(b)) => mk_known(graph, a == b),
-        _ if y.number() < x.number() => graph.bit(BitNode::Same(y, x)),
-        _ => graph.bit(BitNode::Same(x, y)),
-    }
+    let form = same_form(graph, x, y);
+    make_bit(graph, form)
 }
 
 /// Whether two words and a carry are over 65535.
@@ -41,15 +39,8 @@ pub fn mk_carry(graph: &mut Graph, x: WordId, y: WordId, c: BitId) -> Result<Bit
     ensures grown { Grown graph.old graph.new }
     ensures adds { AddsAtMost graph.old graph.new 1 32 }
 {
-    match (graph.word_at(x), graph.word_at(y), graph.bit_at(c)) {
-        (WordNode::Const(a), WordNode::Const(b), BitNode::Known(carry)) => {
-            mk_known(graph, carries(a, b, carry))
-        }
-        (WordNode::Const(0), _, BitNode::Known(false))
-        | (_, WordNode::Const(0), BitNode::Known(false)) => { mk_known(graph, false) }
-        _ if y.number() < x.number() => graph.bit(BitNode::Carry(y, x, c)),
-        _ => graph.bit(BitNode::Carry(x, y, c)),
-    }
+    let form = carry_form(graph, x, y, c);
+    make_bit(graph, form)
 }
 
 /// Whether a word is below another and a borrow.
@@ -64,13 +55,87 @@ pub fn mk_borrow(graph: &mut Graph, x: WordId, y: WordId, c: BitId) -> Result<Bi
     ensures grown { Grown graph.old graph.new }
     ensures adds { AddsAtMost graph.old graph.new 1 32 }
 {
+    let form = borrow_form(graph, x, y, c);
+    make_bit(graph, form)
+}
+
+/// Whether two words are equal.
+fn same_form(graph: &Graph, x: WordId, y: WordId) -> BitForm
+    requires x { HasWord graph.now x }
+    requires y { HasWord graph.now y }
+    ensures value { BitMeans graph.now result (λ inputs. word_value inputs graph.now x == word_value inputs graph.now y) }
+    ensures ready { IsBitReady graph.now result }
+    ensures inputs { StandsOn graph.now (x.number ∷ y.number ∷ []) (bit_form_numbers result) }
+    ensures light { bit_form_weight result ≤ 32 }
+{
+    let pair = compared(graph, x, y);
+    simple_same(graph, pair.x, pair.y)
+}
+
+/// Whether two words are equal, of which none is a difference.
+#[tactic(auto, using(crate::proofs::SumLaws::same_comm))]
+fn simple_same(graph: &Graph, x: WordId, y: WordId) -> BitForm
+    requires x { HasWord graph.now x }
+    requires y { HasWord graph.now y }
+    ensures value { BitMeans graph.now result (λ inputs. word_value inputs graph.now x == word_value inputs graph.now y) }
+    ensures ready { IsBitReady graph.now result }
+    ensures inputs { StandsOn graph.now (x.number ∷ y.number ∷ []) (bit_form_numbers result) }
+    ensures light { bit_form_weight result ≤ 32 }
+{
+    match (graph.word_at(x), graph.word_at(y)) {
+        _ if x == y => BitForm::New(BitNode::Known(true)),
+        (WordNode::Const(a), WordNode::Const(b)) => BitForm::New(BitNode::Known(a == b)),
+        (_, WordNode::Const(value)) if !can_be(graph, x, value) => BitForm::New(BitNode::Known(
+            false,
+        )),
+        (WordNode::Const(value), _) if !can_be(graph, y, value) => BitForm::New(BitNode::Known(
+            false,
+        )),
+        _ if y.number() < x.number() => BitForm::New(BitNode::Same(y, x)),
+        _ => BitForm::New(BitNode::Same(x, y)),
+    }
+}
+
+/// Whether two words and a carry are over 65535.
+#[tactic(auto, using(crate::proofs::SumLaws::carry_of_doubled))]
+fn carry_form(graph: &Graph, x: WordId, y: WordId, c: BitId) -> BitForm
+    requires x { HasWord graph.now x }
+    requires y { HasWord graph.now y }
+    requires c { HasBit graph.now c }
+    ensures value { BitMeans graph.now result (λ inputs. nat_lt 65535 (word_value inputs graph.now x + word_value inputs graph.now y + bit (bit_value inputs graph.now c))) }
+    ensures ready { IsBitReady graph.now result }
+    ensures inputs { StandsOn graph.now (x.number ∷ y.number ∷ c.number ∷ []) (bit_form_numbers result) }
+    ensures light { bit_form_weight result ≤ 32 }
+{
+    match (graph.word_at(x), graph.word_at(y), graph.bit_at(c)) {
+        (WordNode::Const(a), WordNode::Const(b), BitNode::Known(carry)) => {
+            BitForm::New(BitNode::Known(carries(a, b, carry)))
+        }
+        _ if x == y => pick_form(graph, x, 15),
+        _ if never_carries(graph, x, y, c) => BitForm::New(BitNode::Known(false)),
+        _ if y.number() < x.number() => BitForm::New(BitNode::Carry(y, x, c)),
+        _ => BitForm::New(BitNode::Carry(x, y, c)),
+    }
+}
+
+/// Whether a word is below another and a borrow.
+#[tactic(auto, using(crate::proofs::SumLaws::borrow_of_same))]
+fn borrow_form(graph: &Graph, x: WordId, y: WordId, c: BitId) -> BitForm
+    requires x { HasWord graph.now x }
+    requires y { HasWord graph.now y }
+    requires c { HasBit graph.now c }
+    ensures value { BitMeans graph.now result (λ inputs. nat_lt (word_value inputs graph.now x) (word_value inputs graph.now y + bit (bit_value inputs graph.now c))) }
+    ensures ready { IsBitReady graph.now result }
+    ensures inputs { StandsOn graph.now (x.number ∷ y.number ∷ c.number ∷ []) (bit_form_numbers result) }
+    ensures light { bit_form_weight result ≤ 32 }
+{
     match (graph.word_at(x), graph.word_at(y), graph.bit_at(c)) {
         (WordNode::Const(a), WordNode::Const(b), BitNode::Known(borrow)) => {
-            mk_known(graph, borrows(a, b, borrow))
+            BitForm::New(BitNode::Known(borrows(a, b, borrow)))
         }
-        (_, WordNode::Const(0), BitNode::Known(false)) => mk_known(graph, false),
-        (_, _, BitNode::Known(false)) if x == y => mk_known(graph, false),
-        (_, _, BitNode::Known(true)) if x == y => mk_known(graph, true),
-        _ => graph.bit(BitNode::Borrow(x, y, c)),
+        _ if x == y => BitForm::Old(c),
+        _ if is_never_below(graph, x, y, c) => BitForm::New(BitNode::Known(false)),
+        _ if is_always_below(graph, x, y, c) => BitForm::New(BitNode::Known(true)),
+        _ => BitForm::New(BitNode::Borrow(x, y, c)),
     }
 }

@@ -7,19 +7,25 @@
 #![tactic(auto)]
 
 mod bits;
+mod choices;
 mod comparisons;
+mod conjunctions;
+mod disjunctions;
+mod forms;
 mod leaves;
+mod picks;
+mod products;
 mod shifts;
 mod sums;
 mod words;
 
-pub use bits::{mk_andb, mk_iteb, mk_notb, mk_orb, mk_pick, mk_xorb};
+pub use bits::{mk_andb, mk_iteb, mk_notb, mk_orb, mk_xorb};
+pub use choices::mk_ite;
 pub use comparisons::{mk_borrow, mk_carry, mk_same};
 pub use leaves::{mk_byte, mk_cell, mk_const, mk_known};
-pub use shifts::{mk_high, mk_look, mk_low, mk_shl, mk_shr};
-pub use sums::{mk_diff, mk_ite, mk_sum};
+pub use picks::mk_pick;
+pub use products::{mk_high, mk_look, mk_low};
+pub use shifts::{mk_shl, mk_shr};
+pub use sums::{mk_diff, mk_sum};
 pub use wb_term::OutOfMemory;
 pub use words::{mk_and, mk_not, mk_or, mk_xor};
-
-#[cfg(test)]
-mod tests;

@@ -1,10 +1,14 @@
-ghost use Rattle.std.specs.Prelude.{◌-◌, ◌<◌, ◌^◌, bit_and, bit_or, bit_xor, [], ◌∷◌, IfOk, length};
+ghost use Rattle.std.specs.Prelude.{◌≡◌, ◌-◌, ◌<◌, ◌≤◌, ◌^◌, bit_and, bit_or, bit_xor, [], ◌∷◌, IfOk, length};
 ghost use Rattle.wb_term.specs.Terms.{HasWord};
 ghost use Rattle.wb_term.specs.Values.{IsWord, word_value};
 ghost use Rattle.wb_term.specs.Growth.{Grown, AddsAtMost};
 ghost use Rattle.wb_make.specs.Inputs.{BringsOnly};
+ghost use Rattle.wb_known.specs.Stands.{StandsOn};
+ghost use Rattle.wb_make.specs.Forms.{WordMeans, IsWordReady, word_form_numbers, word_form_weight};
 
-use crate::leaves::mk_const;
+use crate::conjunctions::and_form;
+use crate::disjunctions::{or_form, xor_form};
+use crate::forms::{WordForm, make_word};
 use wb_term::{Graph, OutOfMemory, WordId, WordNode};
 
 /// Each bit of a word turned over.
@@ -16,15 +20,11 @@ pub fn mk_not(graph: &mut Graph, x: WordId) -> Result<WordId, OutOfMemory>
     ensures grown { Grown graph.old graph.new }
     ensures adds { AddsAtMost graph.old graph.new 1 0 }
 {
-    match graph.word_at(x) {
-        WordNode::Const(value) => mk_const(graph, !value),
-        WordNode::Not(inner) => Ok(inner),
-        _ => graph.word(WordNode::Not(x)),
-    }
+    let form = not_form(graph, x);
+    make_word(graph, form)
 }
 
 /// The bits that two words share.
-#[tactic(auto, using(crate::proofs::WordLaws::and_laws))]
 pub fn mk_and(graph: &mut Graph, x: WordId, y: WordId) -> Result<WordId, OutOfMemory>
     requires x { HasWord graph.old x }
     requires y { HasWord graph.old y }
@@ -35,20 +35,11 @@ pub fn mk_and(graph: &mut Graph, x: WordId, y: WordId) -> Result<WordId, OutOfMe
     ensures grown { Grown graph.old graph.new }
     ensures adds { AddsAtMost graph.old graph.new 1 16 }
 {
-    if x == y {
-        return Ok(x);
-    }
-    match (graph.word_at(x), graph.word_at(y)) {
-        (WordNode::Const(a), WordNode::Const(b)) => mk_const(graph, a & b),
-        (WordNode::Const(0), _) | (_, WordNode::Const(0xFFFF)) => Ok(x),
-        (WordNode::Const(0xFFFF), _) | (_, WordNode::Const(0)) => Ok(y),
-        _ if y.number() < x.number() => graph.word(WordNode::And(y, x)),
-        _ => graph.word(WordNode::And(x, y)),
-    }
+    let form = and_form(graph, x, y);
+    make_word(graph, form)
 }
 
 /// The bits that one of two words has.
-#[tactic(auto, using(crate::proofs::WordLaws::or_laws))]
 pub fn mk_or(graph: &mut Graph, x: WordId, y: WordId) -> Result<WordId, OutOfMemory>
     requires x { HasWord graph.old x }
     requires y { HasWord graph.old y }
@@ -59,20 +50,11 @@ pub fn mk_or(graph: &mut Graph, x: WordId, y: WordId) -> Result<WordId, OutOfMem
     ensures grown { Grown graph.old graph.new }
     ensures adds { AddsAtMost graph.old graph.new 1 16 }
 {
-    if x == y {
-        return Ok(x);
-    }
-    match (graph.word_at(x), graph.word_at(y)) {
-        (WordNode::Const(a), WordNode::Const(b)) => mk_const(graph, a | b),
-        (WordNode::Const(0xFFFF), _) | (_, WordNode::Const(0)) => Ok(x),
-        (WordNode::Const(0), _) | (_, WordNode::Const(0xFFFF)) => Ok(y),
-        _ if y.number() < x.number() => graph.word(WordNode::Or(y, x)),
-        _ => graph.word(WordNode::Or(x, y)),
-    }
+    let form = or_form(graph, x, y);
+    make_word(graph, form)
 }
 
 /// The bits in which two words differ.
-#[tactic(auto, using(crate::proofs::WordLaws::xor_laws))]
 pub fn mk_xor(graph: &mut Graph, x: WordId, y: WordId) -> Result<WordId, OutOfMemory>
     requires x { HasWord graph.old x }
     requires y { HasWord graph.old y }
@@ -83,16 +65,21 @@ pub fn mk_xor(graph: &mut Graph, x: WordId, y: WordId) -> Result<WordId, OutOfMe
     ensures grown { Grown graph.old graph.new }
     ensures adds { AddsAtMost graph.old graph.new 1 16 }
 {
-    if x == y {
-        return mk_const(graph, 0);
-    }
-    match (graph.word_at(x), graph.word_at(y)) {
-        (WordNode::Const(a), WordNode::Const(b)) => mk_const(graph, a ^ b),
-        (WordNode::Const(0), _) => Ok(y),
-        (_, WordNode::Const(0)) => Ok(x),
-        (WordNode::Const(0xFFFF), _) => mk_not(graph, y),
-        (_, WordNode::Const(0xFFFF)) => mk_not(graph, x),
-        _ if y.number() < x.number() => graph.word(WordNode::Xor(y, x)),
-        _ => graph.word(WordNode::Xor(x, y)),
+    let form = xor_form(graph, x, y);
+    make_word(graph, form)
+}
+
+/// Each bit of a word turned over.
+pub(crate) fn not_form(graph: &Graph, x: WordId) -> WordForm
+    requires x { HasWord graph.now x }
+    ensures value { WordMeans graph.now result (λ inputs. 65535 - word_value inputs graph.now x) }
+    ensures ready { IsWordReady graph.now result }
+    ensures inputs { StandsOn graph.now (x.number ∷ []) (word_form_numbers result) }
+    ensures light { word_form_weight result ≡ 0 }
+{
+    match graph.word_at(x) {
+        WordNode::Const(value) => WordForm::New(WordNode::Const(!value)),
+        WordNode::Not(inner) => WordForm::Old(inner),
+        _ => WordForm::New(WordNode::Not(x)),
     }
 }

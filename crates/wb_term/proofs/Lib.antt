@@ -3,6 +3,7 @@ pub mod Placed
 pub mod Values
 pub mod Same
 pub mod Push
+pub mod Find
 pub mod Under
 pub mod Growth
 pub mod Fits

@@ -1,4 +1,4 @@
-ghost use Rattle.std.specs.Prelude.{◌≡◌, ◌≢◌, [], ◌≤◌, ◌<◌, ◌^◌, ℕ, Bool, true, IfOk, OnErr, length, slice_get, slice_index};
+ghost use Rattle.std.specs.Prelude.{◌≡◌, ◌≢◌, [], ◌≤◌, ◌<◌, ◌^◌, ℕ, Bool, true, IfOk, OnErr, IfSome, IfNone, Some, length, slice_get, slice_index};
 ghost use Rattle.wb_word.specs.Table.{IsTable};
 ghost use Rattle.wb_term.specs.Nodes.{is_input, Each, children, word_children, bit_children, word_weight, bit_weight};
 ghost use Rattle.wb_term.specs.Terms.{Terms, IsGraph, IsKept, HasWord, HasBit, IsPlaced, IsWordPlaced, IsBitPlaced, table_of, table_words};
@@ -180,6 +180,54 @@ impl Graph {
     {
         let number = self.intern(Node::Bit(node))?;
         Ok(BitId { number })
+    }
+
+    /// The word node that equals this one, where it stands. It takes no memory.
+    pub fn find_word(&self, node: WordNode) -> Option<WordId>
+        ensures found { IfSome result (λ id. slice_get self.now.nodes id.number ≡ Some (Node.Word node)) }
+        ensures absent { IfNone result ((k : ℕ) → slice_get self.now.nodes k ≢ Some (Node.Word node)) }
+
+        // What that means for those above.
+        ensures means { IfSome result (λ id. IsWord self.now id
+            (λ inputs. word_node_value self.now.tables inputs (word_value inputs self.now) (bit_value inputs self.now) node)) }
+        ensures inputs { IfSome result (λ id. (allowed : Node → Bool) → (is_input (Node.Word node) ≡ true → allowed (Node.Word node) ≡ true) →
+            Each (HasOnly self.now allowed) (word_children node) → HasOnly self.now allowed id.number) }
+    {
+        match self.find(Node::Word(node)) {
+            Some(number) => Some(WordId { number }),
+            None => None,
+        }
+    }
+
+    /// The bit node that equals this one, where it stands. It takes no memory.
+    pub fn find_bit(&self, node: BitNode) -> Option<BitId>
+        ensures found { IfSome result (λ id. slice_get self.now.nodes id.number ≡ Some (Node.Bit node)) }
+        ensures absent { IfNone result ((k : ℕ) → slice_get self.now.nodes k ≢ Some (Node.Bit node)) }
+
+        // What that means for those above.
+        ensures means { IfSome result (λ id. IsBit self.now id
+            (λ inputs. bit_node_value (word_value inputs self.now) (bit_value inputs self.now) node)) }
+        ensures inputs { IfSome result (λ id. (allowed : Node → Bool) →
+            Each (HasOnly self.now allowed) (bit_children node) → HasOnly self.now allowed id.number) }
+    {
+        match self.find(Node::Bit(node)) {
+            Some(number) => Some(BitId { number }),
+            None => None,
+        }
+    }
+
+    fn find(&self, node: Node) -> Option<u32>
+        ensures found { IfSome result (λ number. slice_get self.now.nodes number ≡ Some node) }
+        ensures absent { IfNone result ((k : ℕ) → slice_get self.now.nodes k ≢ Some node) }
+        ensures value { IfSome result (λ number. (inputs : Assignment) →
+            value inputs self.now number ≡ node_value self.now.tables inputs (value inputs self.now) node) }
+        ensures inputs { IfSome result (λ number. (allowed : Node → Bool) → (is_input node ≡ true → allowed node ≡ true) →
+            Each (HasOnly self.now allowed) (children node) → HasOnly self.now allowed number) }
+    {
+        match self.nodes.get_index_of(&node) {
+            Some(index) => Some(index as u32),
+            None => None,
+        }
     }
 
     fn intern(&mut self, node: Node) -> Result<u32, OutOfMemory>

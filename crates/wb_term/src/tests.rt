@@ -25,6 +25,10 @@ fn equal_nodes_have_one_number(rt: HostRuntime) -> Result<(), Fail> {
         (0, 0, 1, 2)
     );
     assert_eq!(rt; graph.node_at(1), Node::Bit(BitNode::Known(true)));
+    assert_eq!(rt; graph.find_word(WordNode::Const(5)), Some(five));
+    assert_eq!(rt; graph.find_word(WordNode::Const(6)), None);
+    assert_eq!(rt; graph.find_bit(BitNode::Known(true)), Some(set));
+    assert_eq!(rt; graph.find_bit(BitNode::Known(false)), None);
     Ok(())
 }
 

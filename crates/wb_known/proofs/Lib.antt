@@ -1,0 +1,4 @@
+pub mod MaskLaws
+pub mod BitLaws
+pub mod PartLaws
+pub mod BoundLaws

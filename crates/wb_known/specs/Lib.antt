@@ -1,0 +1,4 @@
+pub mod Stands
+pub mod Masks
+pub mod Bits
+pub mod Sources
