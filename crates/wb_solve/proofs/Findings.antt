@@ -98,7 +98,7 @@ clauses_few c =
 split : (j k : ℕ) → j < k + 1 → (j < k) ⊎ (j ≡ k)
 split j k h = grind arith
 
-same_clause : (known : List (List Lit)) (number : ℕ) (one two : List Lit) → slice_get known number ≡ Some one → slice_get known number ≡ Some two → one ≡ two
+pub same_clause : (known : List (List Lit)) (number : ℕ) (one two : List Lit) → slice_get known number ≡ Some one → slice_get known number ≡ Some two → one ≡ two
 same_clause known number one two e f = cc
 
 more_falsified : (known : List (List Lit)) (p : Partial) (k : ℕ) (clause : List Lit) → NoneFalsifiedBelow known p k → slice_get known k ≡ Some clause → (IsFalsified p clause → ⊥) → NoneFalsifiedBelow known p (k + 1)

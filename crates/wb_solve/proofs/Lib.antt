@@ -12,3 +12,7 @@ pub mod Underway
 pub mod Findings
 pub mod Turning
 pub mod Searching
+pub mod Trailing
+pub mod Whole
+pub mod Hinting
+pub mod Marking

@@ -25,10 +25,10 @@ valued_more p n b before e x h = by (split x n)
     by (inl less) = before x less
     by (inr here) = let same : x ≡ n = omega arith in (b, ap p same ∙ e)
 
-none_falsified : (known : List (List Lit)) (p : Partial) → NoneFalsifiedBelow known p (length known) → SomeFalsified known p → ⊥
+pub none_falsified : (known : List (List Lit)) (p : Partial) → NoneFalsifiedBelow known p (length known) → SomeFalsified known p → ⊥
 none_falsified known p none some = none some.0 some.1 (slice_get_within known some.0 some.1 some.2) some.2 some.3
 
-stable_from : (known : List (List Lit)) (p : Partial) → NoneFalsifiedBelow known p (length known) → NoneUnitBelow known p (length known) → IsStable known p
+pub stable_from : (known : List (List Lit)) (p : Partial) → NoneFalsifiedBelow known p (length known) → NoneUnitBelow known p (length known) → IsStable known p
 stable_from known p none no_unit = record {
   no_falsified = none_falsified known p none;
   no_unit = λ l some. no_unit some.0 l (slice_get_within known some.0 some.1.0 some.1.1) some.1;

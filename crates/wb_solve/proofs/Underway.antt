@@ -12,12 +12,12 @@ use Rattle.wb_solve.specs.Course.{value_in, partial_of, opens, AllOpen, IsPendin
 use Rattle.wb_solve.proofs.Partials.{Below, but_below}
 use Rattle.wb_solve.proofs.Fresh.{pending_first, pending_unit, pending_assume, open_before}
 
-set_same : (values : List (Option Bool)) (x : ℕ) (o : Option Bool) → x < length values → slice_get (set values x o) x ≡ Some o
+pub set_same : (values : List (Option Bool)) (x : ℕ) (o : Option Bool) → x < length values → slice_get (set values x o) x ≡ Some o
 set_same [] x o h = absurd (omega arith)
 set_same (v ∷ values) zero o h = refl
 set_same (v ∷ values) (suc x) o h = set_same values x o (omega arith)
 
-set_other : (values : List (Option Bool)) (x y : ℕ) (o : Option Bool) → (y ≡ x → ⊥) → slice_get (set values x o) y ≡ slice_get values y
+pub set_other : (values : List (Option Bool)) (x y : ℕ) (o : Option Bool) → (y ≡ x → ⊥) → slice_get (set values x o) y ≡ slice_get values y
 set_other [] x y o ne = refl
 set_other (v ∷ values) zero zero o ne = absurd (ne refl)
 set_other (v ∷ values) zero (suc y) o ne = refl
@@ -55,7 +55,7 @@ opens_less (None ∷ values) (suc x) b h e = let less = opens_less values x b (o
 opens_less (Some v ∷ values) (suc x) b h e = opens_less values x b (omega arith) e
 
 -- the variable is none of these
-abbrev AllNot : ℕ → List ℕ → Type 0
+abbrev pub AllNot : ℕ → List ℕ → Type 0
 AllNot x [] = Unit {0}
 AllNot x (y ∷ ys) = (eqb x y ≡ false) × AllNot x ys
 
@@ -67,7 +67,7 @@ valued_not p x b (y ∷ ys) e open_ones = (by (eqb x y) refl, valued_not p x b y
     by true same = let none : p x ≡ None = ap p (eqb-true x y same) ∙ open_ones.0 in absurd (cc)
     by false ne = ne
 
-refute_other : (more : List ℕ) (p : Partial) (x : ℕ) → AllNot x more → refute (clause_of more) p x ≡ p x
+pub refute_other : (more : List ℕ) (p : Partial) (x : ℕ) → AllNot x more → refute (clause_of more) p x ≡ p x
 refute_other [] p x out = refl
 refute_other (y ∷ ys) p x out = refute_other ys (assume p (minus (variable y))) x out.1 ∙ rw out.0 refl
 

@@ -11,10 +11,13 @@
 mod descents;
 mod laws;
 mod scans;
+mod hints;
+mod marks;
 mod search;
 mod standing;
 #[cfg(test)]
 mod tests;
+mod trail;
 mod values;
 
 pub use laws::{
