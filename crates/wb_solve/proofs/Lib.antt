@@ -16,3 +16,5 @@ pub mod Trailing
 pub mod Whole
 pub mod Hinting
 pub mod Marking
+pub mod Keeping
+pub mod Tables

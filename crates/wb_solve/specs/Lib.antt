@@ -3,5 +3,7 @@ pub mod Search
 pub mod Laws
 pub mod Course
 pub mod Trails
+pub mod Watching
+pub mod Propagating
 pub mod Turns
 pub mod Answers

@@ -9,7 +9,9 @@
 #![tactic(auto)]
 
 mod descents;
+mod kept;
 mod laws;
+mod propagation;
 mod scans;
 mod hints;
 mod marks;
@@ -19,6 +21,7 @@ mod standing;
 mod tests;
 mod trail;
 mod values;
+mod watches;
 
 pub use laws::{
     order_is_free, outcomes_are_one, propagation_is_confluent, stable_values_satisfy, steps_are_few,
