@@ -23,7 +23,7 @@ use Rattle.wb_solve.specs.Course.{AllBelow, IsStanding, StandsAt, UnitWithin, No
 use Rattle.wb_solve.proofs.Lists.{get_left, get_after}
 use Rattle.wb_solve.proofs.Few.{step_fresh}
 
-occurs_below : (n : ℕ) (clause : List Lit) (l : Lit) → names_only n clause ≡ true → Occurs l clause → l.var < n
+pub occurs_below : (n : ℕ) (clause : List Lit) (l : Lit) → names_only n clause ≡ true → Occurs l clause → l.var < n
 occurs_below n [] l named o = absurd o
 occurs_below n (m ∷ ms) l named o = by (nat_lt m.var n) refl named o (occurs_below n ms l)
   where

@@ -25,7 +25,7 @@ In x (y ∷ ys) = (x ≡ y) ⊎ In x ys
 split : (j k : ℕ) → (j < k) ⊎ (j ≡ k) ⊎ (k < j)
 split j k = grind arith
 
-entry_within : (es : List Entry) (j : ℕ) → j < length es → (e : Entry) × (slice_get es j ≡ Some e)
+pub entry_within : (es : List Entry) (j : ℕ) → j < length es → (e : Entry) × (slice_get es j ≡ Some e)
 entry_within [] j h = absurd (omega arith)
 entry_within (e ∷ es) zero h = (e, refl)
 entry_within (e ∷ es) (suc j) h = entry_within es j (omega arith)

@@ -18,3 +18,5 @@ pub mod Hinting
 pub mod Marking
 pub mod Keeping
 pub mod Tables
+pub mod Visiting
+pub mod Moving

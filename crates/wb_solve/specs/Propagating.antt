@@ -1,5 +1,5 @@
 -- What propagation by watched literals keeps.
-use Rattle.std.specs.Prelude.{◌≡◌, ℕ, ◌+◌, ◌<◌, ◌≤◌, ◌⊎◌, List, [], ◌∷◌, ◌++◌, length, take, Option, Some, None}
+use Rattle.std.specs.Prelude.{◌≡◌, ℕ, ◌+◌, ◌<◌, ◌≤◌, ◌⊎◌, List, [], ◌∷◌, ◌++◌, length, slice_set, take, Option, Some, None}
 use Rattle.std.specs.List.{slice_get}
 use Rattle.wb_gate.specs.declared.gates.Lit.{Lit}
 use Rattle.wb_gate.specs.Circuit.{Circuit, variables, minus}
@@ -13,8 +13,12 @@ use Rattle.wb_solve.specs.declared.propagation.Truth.{Truth}
 use Rattle.wb_solve.specs.declared.propagation.Truth.TheVariants as truth
 use Rattle.wb_solve.specs.declared.propagation.Next.{Next}
 use Rattle.wb_solve.specs.declared.propagation.Next.TheVariants.{Stays, Watches, Makes, Falsified}
-use Rattle.wb_solve.specs.Trails.{Holds, Track, AllNamed, made, AreJust}
-use Rattle.wb_solve.specs.Watching.{IsPair, Watchers, watchers, AreKept, AreWatched, AreGuarded, AreAsserted, NoneBlank, AreSettled, AreHeld}
+use Rattle.wb_solve.specs.declared.propagation.Propagation.{Propagation}
+use Rattle.wb_solve.specs.declared.propagation.Visit.{Visit}
+use Rattle.wb_solve.specs.declared.propagation.Visit.TheVariants as visit
+use Rattle.wb_solve.specs.Turns.{FalsifiedAt}
+use Rattle.wb_solve.specs.Trails.{Holds, Track, AllNamed, made, AreJust, assumed_in}
+use Rattle.wb_solve.specs.Watching.{IsPair, Watchers, watchers, AreKept, AreWatched, AreGuarded, AreAsserted, NoneBlank, AreSettled, AreHeld, LosesAt}
 
 abbrev pub IsTruth : Partial → Lit → Truth → Type 0
 IsTruth p l truth.True = Holds p l
@@ -69,3 +73,39 @@ pub record IsVisiting (c : Circuit) (steps : List (List Lit)) (kept : List Kept)
   pub at_head : slice_get track.entries head ≡ Some entry
   pub is_false : l ≡ minus entry.lit
   pub done : AreDone kept (watchers lists l) place l (made track.entries)
+
+-- the trail grew by entries that are no assumptions
+abbrev pub Grows : List Entry → List Entry → Type 0
+Grows old new = (added : List Entry) × (new ≡ old ++ added) × (assumed_in added ≡ [])
+
+abbrev pub IsRunningAt : Circuit → List (List Lit) → Propagation → Type 0
+IsRunningAt c steps s = IsRunning c steps s.kept.items s.watches s.trail
+
+abbrev pub IsVisitingAt : Circuit → List (List Lit) → Propagation → ℕ → Lit → ℕ → Type 0
+IsVisitingAt c steps s head l place = IsVisiting c steps s.kept.items s.watches s.trail head l place
+
+-- What the visit of a clause comes to. The next place is the one after it, or the same where a clause left the list.
+abbrev pub IsVisit : Circuit → List (List Lit) → Propagation → Propagation → ℕ → Lit → ℕ → Visit → Type 0
+IsVisit c steps old new head l place visit.Stays = IsVisitingAt c steps new head l (place + 1) × (length (watchers new.watches l) ≡ length (watchers old.watches l))
+IsVisit c steps old new head l place visit.Leaves = IsVisitingAt c steps new head l place × (length (watchers new.watches l) + 1 ≡ length (watchers old.watches l))
+IsVisit c steps old new head l place (visit.Conflicts number) = IsRunningAt c steps new × FalsifiedAt (clauses_of c ++ steps) (made new.trail.entries) number
+
+-- the entries before this place are done
+abbrev pub IsDoneTo : Circuit → List (List Lit) → Propagation → ℕ → Type 0
+IsDoneTo c steps s head = IsRunningAt c steps s × AreGuarded s.kept.items (made (take head s.trail.entries)) (made s.trail.entries)
+
+-- what the visits of all clauses that watch a literal come to, or those for all entries
+abbrev pub IsPassed : Circuit → List (List Lit) → Propagation → ℕ → Option ℕ → Type 0
+IsPassed c steps s head None = IsDoneTo c steps s head
+IsPassed c steps s head (Some number) = IsRunningAt c steps s × FalsifiedAt (clauses_of c ++ steps) (made s.trail.entries) number
+
+-- the lists after the clause left the one and came to the other, and the clause as it is kept then
+pub record IsRewatched (old new : Propagation) (number : ℕ) (l : Lit) (place : ℕ) (w : Watched) : Type 0 where
+  pub mid : Watchers
+  pub kept : new.kept.items ≡ slice_set old.kept.items number (Wide w)
+  pub loses : LosesAt place (watchers old.watches l) (watchers mid l)
+  pub mid_others : (m : Lit) → (m ≡ l → ⊥) → watchers mid m ≡ watchers old.watches m
+  pub gains : watchers new.watches w.second ≡ watchers mid w.second ++ (number ∷ [])
+  pub others : (m : Lit) → (m ≡ w.second → ⊥) → watchers new.watches m ≡ watchers mid m
+  pub same_length : length new.watches.plain ≡ length old.watches.plain
+  pub same_trail : new.trail ≡ old.trail
