@@ -20,3 +20,4 @@ pub mod Keeping
 pub mod Tables
 pub mod Visiting
 pub mod Moving
+pub mod Growing

@@ -16,14 +16,16 @@ use Rattle.wb_solve.specs.declared.trail.Reason.TheVariants.{Assumed}
 use Rattle.wb_solve.specs.declared.propagation.Next.TheVariants.{Stays, Watches}
 use Rattle.wb_solve.specs.Trails.{Holds, Track, made, AreNew, AreJust}
 use Rattle.wb_solve.specs.Watching.{IsAmong, IsWide, IsKept, AreKept, HasIn, Watchers, watchers, AreWatched, IsGuarded, AreGuarded, AreAsserted, NoneBlank, IsSettled, AreSettled, LosesAt, IsPair}
-use Rattle.wb_solve.specs.Propagating.{IsNext, AreDone, IsRunning, IsVisiting}
+use Rattle.wb_solve.specs.declared.propagation.Propagation.{Propagation}
+use Rattle.wb_solve.specs.declared.propagation.Visit.TheVariants as visit
+use Rattle.wb_solve.specs.Propagating.{IsNext, IsNextOf, AreDone, IsRunning, IsVisiting, IsVisitingAt, IsVisit, IsRewatched}
 use Rattle.wb_solve.proofs.Lists.{get_left}
 use Rattle.wb_solve.proofs.Partials.{Below, below_self, below_trans, below_assume}
 use Rattle.wb_solve.proofs.Searching.{get_last}
 use Rattle.wb_solve.proofs.Trailing.{made_more}
 use Rattle.wb_solve.proofs.Hinting.{above, just_new, entry_within}
 use Rattle.wb_solve.proofs.Tables.{put_same, put_other}
-use Rattle.wb_solve.proofs.Visiting.{not_both, visited_false}
+use Rattle.wb_solve.proofs.Visiting.{not_both, visited_false, unit_below}
 
 -- values are kept along a trail
 pub made_below : (n : ℕ) (entries : List Entry) → AreNew n entries → (more k : ℕ) → k + more ≡ length entries → Below (made (take k entries)) (made entries)
@@ -308,3 +310,19 @@ module _ (c : Circuit) (steps : List (List Lit)) (kept : List Kept) (lists : Wat
 
   pub moves_below : new.second.var ≡ third.var
   moves_below = ap (λ (m : Lit). m.var) second_is
+
+-- the same, as the code says it
+module _ (c : Circuit) (steps : List (List Lit)) (old new : Propagation) (head : ℕ) (l : Lit) (place : ℕ) (is : IsVisitingAt c steps old head l place) (number : ℕ) (w : Watched) (at_place : slice_get (watchers old.watches l) place ≡ Some number) (next : IsNextOf old.kept.items (made old.trail.entries) number l (Watches w)) where
+  pub moved_below : w.second.var < length old.watches.plain
+  moved_below =
+      let third = next.2.1 in
+      let below = unit_below c steps old.kept.items old.watches old.trail head l place is number next.0 third next.1 (inr (inr next.2.3)) in
+      let same : w.second.var ≡ third.var = ap (λ (v : Watched). v.second.var) next.2.5 in
+      let count = is.running.list_count in
+      omega arith
+
+  pub moved : IsRewatched old new number l place w → IsVisit c steps old new head l place visit.Leaves
+  moved made_so =
+      let whole = visiting_moves c steps old.kept.items old.watches old.trail head l place is number next.0 w new.kept.items made_so.mid new.watches at_place next.1 next.2 made_so.kept made_so.loses made_so.mid_others made_so.gains made_so.others made_so.same_length in
+      let shorter = moves_shorter c steps old.kept.items old.watches old.trail head l place is number next.0 w new.kept.items made_so.mid new.watches at_place next.1 next.2 made_so.kept made_so.loses made_so.mid_others made_so.gains made_so.others made_so.same_length in
+      (subst (λ t. IsVisiting c steps new.kept.items new.watches t head l place) (sym made_so.same_trail) whole, shorter)

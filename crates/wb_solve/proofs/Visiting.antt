@@ -160,7 +160,7 @@ module _ (c : Circuit) (steps : List (List Lit)) where
     others_false w other (inr pair) third m (inr (inl here)) = inr (subst (IsFalse p) (sym pair.0 ∙ here) visited_false)
     others_false w other pair third m (inr (inr here)) = inr (third m here)
 
-    other_among : (w : Watched) (other : Lit) → IsPair w l other → IsAmong other w
+    pub other_among : (w : Watched) (other : Lit) → IsPair w l other → IsAmong other w
     other_among w other (inl pair) = inr (inl pair.1)
     other_among w other (inr pair) = inl pair.1
 
