@@ -21,3 +21,6 @@ pub mod Tables
 pub mod Visiting
 pub mod Moving
 pub mod Growing
+pub mod Resting
+pub mod Deciding
+pub mod Returning

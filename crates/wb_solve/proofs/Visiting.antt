@@ -52,7 +52,7 @@ one_wide kept k w v e f = some_wide (sym e ∙ f)
     some_wide : Some (Wide w) ≡ Some (Wide v) → w ≡ v
     some_wide s = cc
 
-all_false : (l : Lit) (p : Partial) (clause : List Lit) → ((m : Lit) → Occurs m clause → (m ≡ l) ⊎ IsFalse p m) → AreFalseBut l p clause
+pub all_false : (l : Lit) (p : Partial) (clause : List Lit) → ((m : Lit) → Occurs m clause → (m ≡ l) ⊎ IsFalse p m) → AreFalseBut l p clause
 all_false l p [] all = tt
 all_false l p (m ∷ ms) all = (all m (inl refl), all_false l p ms (λ k o. all k (inr o)))
 

@@ -5,5 +5,6 @@ pub mod Course
 pub mod Trails
 pub mod Watching
 pub mod Propagating
+pub mod Loading
 pub mod Turns
 pub mod Answers

@@ -101,3 +101,9 @@ pub record LosesAt (place : ℕ) (old new : List ℕ) : Type 0 where
 -- the clause watches this literal and the other one
 abbrev pub IsPair : Watched → Lit → Lit → Type 0
 IsPair w l other = ((w.first ≡ l) × (w.second ≡ other)) ⊎ ((w.second ≡ l) × (w.first ≡ other))
+
+-- the watched literals name variables below n
+abbrev pub BelowAll : ℕ → Kept → Type 0
+BelowAll n Empty = Unit {0}
+BelowAll n (One l) = Unit {0}
+BelowAll n (Wide w) = (w.first.var < n) × (w.second.var < n)

@@ -14,6 +14,7 @@ mod laws;
 mod propagation;
 mod scans;
 mod hints;
+mod loading;
 mod marks;
 mod search;
 mod standing;
