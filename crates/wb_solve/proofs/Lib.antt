@@ -24,3 +24,4 @@ pub mod Growing
 pub mod Resting
 pub mod Deciding
 pub mod Returning
+pub mod Loads
