@@ -25,3 +25,4 @@ pub mod Resting
 pub mod Deciding
 pub mod Returning
 pub mod Loads
+pub mod Beginning

@@ -56,7 +56,7 @@ pub all_false : (l : Lit) (p : Partial) (clause : List Lit) → ((m : Lit) → O
 all_false l p [] all = tt
 all_false l p (m ∷ ms) all = (all m (inl refl), all_false l p ms (λ k o. all k (inr o)))
 
-falsified_all : (p : Partial) (clause : List Lit) → ((m : Lit) → Occurs m clause → IsFalse p m) → IsFalsified p clause
+pub falsified_all : (p : Partial) (clause : List Lit) → ((m : Lit) → Occurs m clause → IsFalse p m) → IsFalsified p clause
 falsified_all p [] all = tt
 falsified_all p (m ∷ ms) all = (all m (inl refl), falsified_all p ms (λ k o. all k (inr o)))
 

@@ -6,5 +6,6 @@ pub mod Trails
 pub mod Watching
 pub mod Propagating
 pub mod Loading
+pub mod Starting
 pub mod Turns
 pub mod Answers

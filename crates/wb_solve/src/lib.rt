@@ -8,6 +8,7 @@
 //! `specs/Search.antt` the search, and `specs/Answers.antt` what an answer says.
 #![tactic(auto)]
 
+mod asserting;
 mod descents;
 mod kept;
 mod laws;

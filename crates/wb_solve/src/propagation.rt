@@ -48,7 +48,7 @@ fn minus(lit: Lit) -> Lit
 }
 
 /// What a literal is.
-fn truth_of(trail: &Trail, lit: Lit) -> Truth
+pub fn truth_of(trail: &Trail, lit: Lit) -> Truth
     ensures { IsTruth (made trail.now.entries) lit result }
 {
     match trail.value(lit.var) {
