@@ -26,3 +26,4 @@ pub mod Deciding
 pub mod Returning
 pub mod Loads
 pub mod Beginning
+pub mod Halts

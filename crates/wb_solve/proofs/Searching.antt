@@ -75,7 +75,7 @@ filled_more steps clause filled new place other e empty = by (last_or_before ste
     by (inl before) = filled place other before empty
     by (inr here) = new (here.1 ∙ empty)
 
-names_below : (m n : ℕ) (assumed : List ℕ) → m ≤ n → AllBelow m assumed → names_only n (clause_of assumed) ≡ true
+pub names_below : (m n : ℕ) (assumed : List ℕ) → m ≤ n → AllBelow m assumed → names_only n (clause_of assumed) ≡ true
 names_below m n [] h all = refl
 names_below m n (x ∷ xs) h all =
     let less : x < m = all.0 in
@@ -128,7 +128,7 @@ searching_first c = record {
   lawful = λ place h. absurd (omega arith);
 }
 
-clauses_more : (steps : List Step) (step : Step) → clauses_in (steps ++ (step ∷ [])) ≡ clauses_in steps ++ (step.clause ∷ [])
+pub clauses_more : (steps : List Step) (step : Step) → clauses_in (steps ++ (step ∷ [])) ≡ clauses_in steps ++ (step.clause ∷ [])
 clauses_more steps step = map-append (λ (s : Step). s.clause) steps (step ∷ [])
 
 pub searching_more : (c : Circuit) (steps : List Step) (step : Step) → IsSearching c steps → IsConflict c (known_to c steps) step → (step.clause ≡ [] → ⊥) → IsSearching c (steps ++ (step ∷ []))

@@ -7,5 +7,6 @@ pub mod Watching
 pub mod Propagating
 pub mod Loading
 pub mod Starting
+pub mod Halting
 pub mod Turns
 pub mod Answers

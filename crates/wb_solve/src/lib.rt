@@ -9,6 +9,7 @@
 #![tactic(auto)]
 
 mod asserting;
+mod decisions;
 mod descents;
 mod kept;
 mod laws;

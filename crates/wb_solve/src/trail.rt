@@ -97,6 +97,7 @@ impl Trail {
         requires still_open { made self.old.entries lit.var ≡ None }
         ensures entries { OnOk result (self.new.entries ≡ self.old.entries ++ record { lit = lit; reason = reason } ∷ []) }
         ensures variables { OnOk result (self.new.variables ≡ self.old.variables) }
+        ensures few { OnOk result (length self.new.entries ≤ self.new.variables) }
     {
         self.entries.push(Entry { lit, reason })?;
         self.values[lit.var as usize] = Some(!lit.neg);
