@@ -175,3 +175,11 @@ taken_open c steps old mid x is back =
 -- a step that isn't empty comes from an assumption
 pub names_filled : (c : Circuit) (steps : List Step) (old : Descents) → IsResumable c steps old → assumed_in old.propagation.trail.entries ≡ [] → ⊥
 names_filled c steps old is none = is.filled (is.clause ∙ is.fitting.assumed ∙ ap clause_of none)
+
+pub passed_none : (c : Circuit) (steps : List (List Lit)) (s : Descents) (head : ℕ) (found : Option ℕ) → ((number : ℕ) → found ≡ Some number → ⊥) → IsPassed c steps s.propagation head found → IsPassed c steps s.propagation head None
+passed_none c steps s head (Some number) none is = absurd (none number refl)
+passed_none c steps s head None none is = is
+
+pub conflict_halted : (c : Circuit) (steps : List (List Lit)) (head : ℕ) (old new : Descents) (number : ℕ) → IsReady c steps head old → IsPassed c steps new.propagation (length new.propagation.trail.entries) (Some number) → Grows old.propagation.trail.entries new.propagation.trail.entries → new.assumed ≡ old.assumed → new.marks ≡ old.marks → IsHalted c steps new (halt.Conflict number)
+conflict_halted c steps head old new number is passed grows same_assumed same_marks =
+    (fits_more c old new is.fitting grows same_assumed same_marks, running_blocked c steps new number passed, inr passed.0)

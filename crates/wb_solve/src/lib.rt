@@ -8,6 +8,7 @@
 //! `specs/Search.antt` the search, and `specs/Answers.antt` what an answer says.
 #![tactic(auto)]
 
+mod answers;
 mod asserting;
 mod decisions;
 mod descents;
