@@ -27,3 +27,4 @@ pub mod Returning
 pub mod Loads
 pub mod Beginning
 pub mod Halts
+pub mod Ending

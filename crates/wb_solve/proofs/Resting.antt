@@ -83,7 +83,7 @@ kept_quiet p clause kept k Empty at is settled = absurd (settled.filled k at)
 kept_quiet p clause kept k (One l) at is settled = held_quiet p clause l is.0 (settled.asserted k l at)
 kept_quiet p clause kept k (Wide w) at is settled = wide_quiet p clause w is (settled.guarded k w at)
 
-known_split : (clauses steps : List (List Lit)) (k : ℕ) (clause : List Lit) → slice_get (clauses ++ steps) k ≡ Some clause → (slice_get clauses k ≡ Some clause) ⊎ ((j : ℕ) × (slice_get steps j ≡ Some clause))
+pub known_split : (clauses steps : List (List Lit)) (k : ℕ) (clause : List Lit) → slice_get (clauses ++ steps) k ≡ Some clause → (slice_get clauses k ≡ Some clause) ⊎ ((j : ℕ) × (slice_get steps j ≡ Some clause))
 known_split [] steps k clause at = inr (k, at)
 known_split (d ∷ clauses) steps zero clause at = inl at
 known_split (d ∷ clauses) steps (suc k) clause at = known_split clauses steps k clause at
