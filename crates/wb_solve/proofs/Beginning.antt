@@ -1,12 +1,11 @@
 -- Clauses of one literal are made true in order.
-use Rattle.std.proofs.Common.{◌≡◌, ℕ, zero, suc, ◌+◌, ◌<◌, ◌≤◌, ◌⊎◌, inl, inr, Bool, true, false, not, List, [], ◌∷◌, ◌++◌, length, take, Option, Some, None, refl, sym, ◌∙◌, ap, subst, arith}
+use Rattle.std.proofs.Common.{◌≡◌, ℕ, suc, ◌+◌, ◌<◌, ◌⊎◌, inl, inr, List, [], ◌∷◌, ◌++◌, length, Some, None, refl, sym, ◌∙◌, ap, subst, arith}
 use Rattle.std.specs.List.{slice_get}
-use Rattle.std.proofs.lemmas.List.{append-nil}
 use Rattle.std.proofs.lemmas.Option.{slice_get_within}
 use Rattle.wb_gate.specs.declared.gates.Lit.{Lit}
 use Rattle.wb_gate.specs.Circuit.{Circuit, variables}
 use Rattle.wb_gate.specs.Clauses.{clauses_of}
-use Rattle.wb_derive.specs.Partial.{Partial, nothing, assume, IsFalse, IsOpen, IsFalsified, Occurs, IsUnit}
+use Rattle.wb_derive.specs.Partial.{Partial, nothing, assume, IsFalse, IsOpen, IsFalsified}
 use Rattle.wb_solve.specs.declared.kept.Watched.{Watched}
 use Rattle.wb_solve.specs.declared.kept.Kept.{Kept}
 use Rattle.wb_solve.specs.declared.kept.Kept.TheVariants.{Empty, One, Wide}
@@ -17,11 +16,9 @@ use Rattle.wb_solve.specs.declared.propagation.Propagation.{Propagation}
 use Rattle.wb_solve.specs.declared.loading.Loaded.{Loaded}
 use Rattle.wb_solve.specs.Descent.{IsUnitAt}
 use Rattle.wb_solve.specs.Turns.{FalsifiedAt}
-use Rattle.wb_solve.specs.Trails.{Holds, Track, AllNamed, made, IsJust, AreJust, assumed_by, assumed_in}
-use Rattle.wb_solve.specs.Watching.{IsKept, AreGuarded, AreSettled}
+use Rattle.wb_solve.specs.Trails.{Holds, made, IsJust, AreJust, assumed_by, assumed_in}
 use Rattle.wb_solve.specs.Loading.{IsLoadedTo}
-use Rattle.wb_solve.specs.Propagating.{IsRunning, IsDoneTo}
-use Rattle.wb_solve.specs.Starting.{IsAssertingTo, IsAsserted, IsBlocked, IsStarted}
+use Rattle.wb_solve.specs.Starting.{IsAssertingTo, IsStarted}
 use Rattle.wb_solve.proofs.Lists.{get_left}
 use Rattle.wb_solve.proofs.Partials.{Below, below_assume, assume_at}
 use Rattle.wb_solve.proofs.Findings.{occurs_below}
@@ -82,8 +79,14 @@ module _ (c : Circuit) (number : ℕ) (s : Propagation) (is : IsAssertingTo c nu
   -- the clause holds already, or is watched
   pub asserted_true : (l : Lit) → slice_get s.kept.items number ≡ Some (One l) → Holds p l → IsAssertingTo c (number + 1) s
   asserted_true l at holds = record {
-    named = is.named; kept_count = is.kept_count; list_count = is.list_count; variable_count = is.variable_count;
-    kept_all = is.kept_all; watched = is.watched; just = is.just; none_assumed = is.none_assumed;
+    named = is.named;
+    kept_count = is.kept_count;
+    list_count = is.list_count;
+    variable_count = is.variable_count;
+    kept_all = is.kept_all;
+    watched = is.watched;
+    just = is.just;
+    none_assumed = is.none_assumed;
     asserted_to = λ k m h found. by k m found (split k number h);
     filled_to = λ k h found. filled k found (split k number h);
   }
@@ -98,8 +101,14 @@ module _ (c : Circuit) (number : ℕ) (s : Propagation) (is : IsAssertingTo c nu
 
   pub asserted_wide : (w : Watched) → slice_get s.kept.items number ≡ Some (Wide w) → IsAssertingTo c (number + 1) s
   asserted_wide w at = record {
-    named = is.named; kept_count = is.kept_count; list_count = is.list_count; variable_count = is.variable_count;
-    kept_all = is.kept_all; watched = is.watched; just = is.just; none_assumed = is.none_assumed;
+    named = is.named;
+    kept_count = is.kept_count;
+    list_count = is.list_count;
+    variable_count = is.variable_count;
+    kept_all = is.kept_all;
+    watched = is.watched;
+    just = is.just;
+    none_assumed = is.none_assumed;
     asserted_to = λ k m h found. by k m found (split k number h);
     filled_to = λ k h found. filled k found (split k number h);
   }
@@ -133,11 +142,15 @@ module _ (c : Circuit) (number : ℕ) (s : Propagation) (is : IsAssertingTo c nu
       let e : Entry = record { lit = l; reason = Clause number } in
       let clause = is.kept_all.each number (One l) at in
       let known = clauses_of c ++ [] in
-      let unit : IsUnitAt known p number l = (clause.0, get_left (clauses_of c) [] number clause.0 clause.1, record {
-        there = clause.2.0;
-        still_open = still;
-        others = all_false l p clause.0 (λ m o. inl (clause.2.1 m o));
-      }) in
+      let unit : IsUnitAt known p number l = (
+        clause.0,
+        get_left (clauses_of c) [] number clause.0 clause.1,
+        record {
+          there = clause.2.0;
+          still_open = still;
+          others = all_false l p clause.0 (λ m o. inl (clause.2.1 m o));
+        },
+      ) in
       let just_at = at_pushed (λ front d. IsJust c.inputs known (made front) d.lit d.reason) s.trail.entries e is.just.at unit in
       let none_at = at_pushed (λ front d. d.reason ≡ Assumed → ⊥) s.trail.entries e is.none_assumed (no_way number) in
       let q_is : made new.trail.entries ≡ assume p l = ap made grown ∙ made_push s.trail.entries e in
@@ -176,27 +189,40 @@ none_names (e ∷ es) none = by e.reason refl (none_names es (λ k d at. none (s
     by (Clause number) is rest = rest
 
 pub started_blocked : (c : Circuit) (count number : ℕ) (s : Propagation) → IsAssertingTo c count s → FalsifiedAt (clauses_of c ++ []) (made s.trail.entries) number → IsStarted c s (Some number)
-started_blocked c count number s is falsified = (record {
-  named = is.named;
-  variable_count = is.variable_count;
-  just = is.just;
-  stable = λ k e at r. absurd (is.none_assumed k e at r);
-  falsified = falsified;
-}, none_names s.trail.entries is.none_assumed)
+started_blocked c count number s is falsified = (
+  record {
+    named = is.named;
+    variable_count = is.variable_count;
+    just = is.just;
+    stable = λ k e at r. absurd (is.none_assumed k e at r);
+    falsified = falsified;
+  },
+  none_names s.trail.entries is.none_assumed,
+)
 
 pub started_all : (c : Circuit) (count : ℕ) (s : Propagation) → IsAssertingTo c count s → count ≡ length (clauses_of c) → IsStarted c s None
-started_all c count s is all = ((record {
-  named = is.named; kept_count = is.kept_count; list_count = is.list_count; variable_count = is.variable_count;
-  kept_all = is.kept_all; watched = is.watched;
-  settled = λ k e at r. absurd (is.none_assumed k e at r);
-  asserted = λ k l at. let within = slice_get_within s.kept.items k (One l) at in is.asserted_to k l (omega (arith, is.kept_count, all)) at;
-  filled = λ k at. let within = slice_get_within s.kept.items k Empty at in is.filled_to k (omega (arith, is.kept_count, all)) at;
-  just = is.just;
-  held = record {
-    now = λ j step at. absurd (no_step j step at);
-    earlier = λ k e j step at r found. absurd (is.none_assumed k e at r);
-  };
-}, λ k w at. (λ f. absurd (nothing_false w.first f), λ f. absurd (nothing_false w.second f))), none_names s.trail.entries is.none_assumed)
+started_all c count s is all = (
+  (
+    record {
+      named = is.named;
+      kept_count = is.kept_count;
+      list_count = is.list_count;
+      variable_count = is.variable_count;
+      kept_all = is.kept_all;
+      watched = is.watched;
+      settled = λ k e at r. absurd (is.none_assumed k e at r);
+      asserted = λ k l at. let within = slice_get_within s.kept.items k (One l) at in is.asserted_to k l (omega (arith, is.kept_count, all)) at;
+      filled = λ k at. let within = slice_get_within s.kept.items k Empty at in is.filled_to k (omega (arith, is.kept_count, all)) at;
+      just = is.just;
+      held = record {
+        now = λ j step at. absurd (no_step j step at);
+        earlier = λ k e j step at r found. absurd (is.none_assumed k e at r);
+      };
+    },
+    λ k w at. (λ f. absurd (nothing_false w.first f), λ f. absurd (nothing_false w.second f)),
+  ),
+  none_names s.trail.entries is.none_assumed,
+)
   where
     no_step : (j : ℕ) (step : List Lit) → slice_get {X = List Lit} [] j ≡ Some step → ⊥
     no_step j step e = cc

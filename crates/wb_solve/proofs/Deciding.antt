@@ -1,29 +1,24 @@
 -- Assumptions, and going back from the last one.
-use Rattle.std.proofs.Common.{◌≡◌, ℕ, zero, suc, ◌+◌, ◌-◌, ◌<◌, ◌≤◌, ◌⊎◌, inl, inr, Bool, true, false, not, List, [], ◌∷◌, ◌++◌, length, map, take, Some, None, refl, sym, ◌∙◌, ap, subst, arith, length-append, append_assoc}
+use Rattle.std.proofs.Common.{◌≡◌, ℕ, zero, suc, ◌⊎◌, inl, inr, true, false, List, [], ◌∷◌, ◌++◌, length, take, Some, refl, sym, ◌∙◌, ap, subst}
 use Rattle.std.specs.List.{slice_get}
-use Rattle.std.proofs.lemmas.List.{append-nil, map-append}
-use Rattle.std.proofs.lemmas.Option.{slice_get_within}
+use Rattle.std.proofs.lemmas.List.{map-append}
 use Rattle.wb_gate.specs.declared.gates.Lit.{Lit}
-use Rattle.wb_gate.specs.Circuit.{Circuit, minus, variable}
+use Rattle.wb_gate.specs.Circuit.{Circuit, variable}
 use Rattle.wb_gate.specs.Clauses.{clauses_of}
-use Rattle.wb_derive.specs.Partial.{Partial, assume, IsFalse, IsOpen, IsFalsified, Occurs, AreFalseBut, IsUnit}
-use Rattle.wb_solve.specs.declared.kept.Watched.{Watched}
+use Rattle.wb_derive.specs.Partial.{Partial, assume, IsFalse, Occurs}
 use Rattle.wb_solve.specs.declared.kept.Kept.{Kept}
-use Rattle.wb_solve.specs.declared.kept.Kept.TheVariants.{Wide}
 use Rattle.wb_solve.specs.declared.trail.Entry.{Entry}
 use Rattle.wb_solve.specs.declared.trail.Reason.{Reason}
 use Rattle.wb_solve.specs.declared.trail.Reason.TheVariants.{Assumed, Clause}
-use Rattle.wb_solve.specs.Descent.{IsFirstOpen, IsUnitAt, clause_of, AreValued}
-use Rattle.wb_solve.specs.Trails.{Holds, Track, made, IsJust, AreJust, assumed_by, assumed_in}
-use Rattle.wb_solve.specs.Watching.{Watchers, IsGuarded, AreGuarded, IsSettled, AreSettled, IsHeld, Waits, AreHeld}
+use Rattle.wb_solve.specs.Descent.{IsFirstOpen, clause_of, AreValued}
+use Rattle.wb_solve.specs.Trails.{Track, made, IsJust, AreJust, assumed_by, assumed_in}
+use Rattle.wb_solve.specs.Watching.{Watchers, AreGuarded, IsSettled, AreSettled, IsHeld, Waits}
 use Rattle.wb_solve.specs.Propagating.{IsRunning}
-use Rattle.wb_solve.proofs.Lists.{get_left}
-use Rattle.wb_solve.proofs.Partials.{Below, below_assume, assume_at}
-use Rattle.wb_solve.proofs.Searching.{take_all, take_front, last_or_before, get_last}
-use Rattle.wb_solve.proofs.Trailing.{made_push, at_pushed, at_front}
+use Rattle.wb_solve.proofs.Partials.{Below, below_assume}
+use Rattle.wb_solve.proofs.Searching.{take_all}
+use Rattle.wb_solve.proofs.Trailing.{made_push, at_pushed}
 use Rattle.wb_solve.proofs.Growing.{assumed_append}
-use Rattle.wb_solve.proofs.Visiting.{held_below, open_not_false}
-use Rattle.wb_solve.proofs.Moving.{front_below}
+use Rattle.wb_solve.proofs.Visiting.{held_below}
 use Rattle.wb_solve.proofs.Resting.{running_settled}
 
 pub guarded_below : (kept : List Kept) (q r s : Partial) → Below r s → AreGuarded kept q r → AreGuarded kept q s

@@ -1,12 +1,12 @@
 -- How descents end.
-use Rattle.std.proofs.Common.{◌≡◌, ℕ, ◌+◌, ◌<◌, ◌≤◌, ◌⊎◌, inl, inr, Bool, true, List, [], ◌∷◌, ◌++◌, length, map, Option, Some, Result, Ok, Err, IfOk, refl, sym, ◌∙◌, ap, subst, arith}
+use Rattle.std.proofs.Common.{◌≡◌, ℕ, ◌⊎◌, inl, inr, Bool, true, List, ◌++◌, length, map, Option, Some, Result, Ok, Err, IfOk, refl, sym, ◌∙◌, ap, subst, arith}
 use Rattle.std.specs.List.{slice_get}
 use Rattle.wb_gate.specs.declared.gates.Lit.{Lit}
 use Rattle.wb_gate.specs.Circuit.{Circuit, variables}
 use Rattle.wb_gate.specs.Clauses.{clauses_of, names_only}
 use Rattle.wb_derive.specs.declared.steps.Step.{Step}
 use Rattle.wb_derive.specs.Clause.{rises}
-use Rattle.wb_derive.specs.Partial.{Partial, nothing, refute}
+use Rattle.wb_derive.specs.Partial.{nothing, refute}
 use Rattle.wb_derive.specs.Lawful.{Refutes}
 use Rattle.wb_solve.specs.declared.decisions.Descents.{Descents}
 use Rattle.wb_solve.specs.declared.decisions.Halt.TheVariants as halt
@@ -66,8 +66,11 @@ module _ (c : Circuit) (steps : List Step) (d : Descents) (are : AreSteps c (cla
       let running = is.1 in
       let known = known_to c steps in
       let stable = running_stable c (clauses_in steps) d.propagation.kept.items d.propagation.watches d.propagation.trail running in
-      let descent = trail_descends c.inputs (variables c) known (named_known c (clauses_in steps) running.named are) (omega arith) entries running.just stable (Values (made entries)) (gives (made entries) (assumed_in entries) is.2 is.3 refl) in
-      (values, made_so, covers ∙ running.variable_count,
-      subst (IsStable known) (sym same) is.2,
-      subst (AreValued c.inputs) (sym same) is.3,
-      subst (λ p. IsDescent c.inputs known (Values p)) (sym same) descent)
+      let descent = trail_descends c.inputs (variables c) known (named_known c (clauses_in steps) running.named are) (omega arith) entries running.just stable (Values (made entries)) (gives (made entries) (assumed_in entries) is.2 is.3 refl) in (
+        values,
+        made_so,
+        covers ∙ running.variable_count,
+        subst (IsStable known) (sym same) is.2,
+        subst (AreValued c.inputs) (sym same) is.3,
+        subst (λ p. IsDescent c.inputs known (Values p)) (sym same) descent,
+      )

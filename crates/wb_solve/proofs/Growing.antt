@@ -1,12 +1,11 @@
 -- Trails that grow by entries that are no assumptions.
-use Rattle.std.proofs.Common.{◌≡◌, ℕ, suc, ◌+◌, ◌<◌, ◌≤◌, List, [], ◌∷◌, ◌++◌, length, take, Some, Option, None, refl, sym, ◌∙◌, ap, subst, arith, length-append, append_assoc}
+use Rattle.std.proofs.Common.{◌≡◌, ℕ, ◌+◌, ◌≤◌, List, [], ◌∷◌, ◌++◌, length, take, Some, Option, None, refl, sym, ◌∙◌, ap, subst, arith, length-append, append_assoc}
 use Rattle.std.proofs.lemmas.List.{append-nil}
 use Rattle.wb_solve.specs.declared.trail.Entry.{Entry}
 use Rattle.wb_solve.specs.declared.propagation.Propagation.{Propagation}
 use Rattle.wb_gate.specs.Circuit.{Circuit}
 use Rattle.wb_gate.specs.declared.gates.Lit.{Lit}
-use Rattle.wb_solve.specs.Trails.{made, assumed_by, assumed_in}
-use Rattle.wb_solve.specs.Watching.{AreGuarded}
+use Rattle.wb_solve.specs.Trails.{assumed_by, assumed_in}
 use Rattle.wb_solve.specs.Propagating.{Grows, IsDoneTo, IsPassed}
 
 pub assumed_append : (es ds : List Entry) → assumed_in (es ++ ds) ≡ assumed_in es ++ assumed_in ds

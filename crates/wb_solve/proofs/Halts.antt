@@ -1,23 +1,20 @@
 -- Where descents over one trail stand.
-use Rattle.std.proofs.Common.{◌≡◌, ℕ, zero, suc, ◌+◌, ◌-◌, ◌<◌, ◌≤◌, ◌⊎◌, inl, inr, Bool, true, false, not, List, [], ◌∷◌, ◌++◌, length, map, take, Option, Some, None, refl, sym, ◌∙◌, ap, subst, arith, length-append, append_assoc}
-use Rattle.std.specs.List.{slice_get}
-use Rattle.std.proofs.lemmas.List.{append-nil, map-append, length-map}
+use Rattle.std.proofs.Common.{◌≡◌, ℕ, ◌+◌, ◌-◌, ◌<◌, ◌≤◌, inr, true, false, List, [], ◌∷◌, ◌++◌, length, take, Option, Some, None, refl, sym, ◌∙◌, ap, subst, arith, length-append, append_assoc}
+use Rattle.std.proofs.lemmas.List.{map-append}
 use Rattle.wb_gate.specs.declared.gates.Lit.{Lit}
-use Rattle.wb_gate.specs.Circuit.{Circuit, variables, variable}
+use Rattle.wb_gate.specs.Circuit.{Circuit, variable}
 use Rattle.wb_gate.specs.Clauses.{clauses_of}
 use Rattle.wb_derive.specs.declared.steps.Step.{Step}
 use Rattle.wb_solve.specs.declared.trail.Entry.{Entry}
-use Rattle.wb_solve.specs.declared.trail.Reason.{Reason}
 use Rattle.wb_solve.specs.declared.trail.Reason.TheVariants.{Assumed, Clause}
 use Rattle.wb_solve.specs.declared.decisions.Descents.{Descents}
-use Rattle.wb_solve.specs.declared.decisions.Halt.{Halt}
 use Rattle.wb_solve.specs.declared.decisions.Halt.TheVariants as halt
 use Rattle.wb_solve.specs.Descent.{IsFirstOpen, AreValued, clause_of}
 use Rattle.wb_solve.specs.Search.{clauses_in}
 use Rattle.wb_solve.specs.Course.{known_to}
 use Rattle.wb_solve.specs.Trails.{Track, made, assumed_by, assumed_in}
 use Rattle.wb_solve.specs.Watching.{AreGuarded}
-use Rattle.wb_solve.specs.Propagating.{IsRunning, IsRunningAt, IsDoneTo, IsPassed, Grows}
+use Rattle.wb_solve.specs.Propagating.{IsRunning, IsPassed, Grows}
 use Rattle.wb_solve.specs.Starting.{IsBlocked}
 use Rattle.wb_solve.specs.Halting.{IsFitting, IsReady, IsDecided, IsTakenBack, IsResumable, IsHalted}
 use Rattle.wb_solve.proofs.Partials.{Below}

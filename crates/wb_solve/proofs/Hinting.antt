@@ -6,16 +6,16 @@ use Rattle.std.proofs.lemmas.List.{reverse-append}
 use Rattle.std.proofs.lemmas.Option.{slice_get_within}
 use Rattle.wb_gate.specs.declared.gates.Lit.{Lit}
 use Rattle.wb_gate.specs.Circuit.{minus, variable}
-use Rattle.wb_derive.specs.Partial.{Partial, nothing, assume, refute, IsFalse, IsFalsified, Occurs, AreFalseBut, IsUnit}
+use Rattle.wb_derive.specs.Partial.{Partial, nothing, assume, refute, IsFalse, IsFalsified, AreFalseBut, IsUnit}
 use Rattle.wb_derive.specs.Lawful.{Refutes}
 use Rattle.wb_solve.specs.declared.trail.Entry.{Entry}
 use Rattle.wb_solve.specs.declared.trail.Reason.{Reason}
 use Rattle.wb_solve.specs.declared.trail.Reason.TheVariants.{Assumed, Clause}
-use Rattle.wb_solve.specs.Descent.{IsUnitAt, IsFirstOpen, clause_of}
-use Rattle.wb_solve.specs.Trails.{Holds, made, AreNew, IsJust, AreJust, assumed_by, assumed_in, Suits, HintsFrom, MarksAll, MarksMore, MarksClause, IsMarkedReason}
+use Rattle.wb_solve.specs.Descent.{IsUnitAt, clause_of}
+use Rattle.wb_solve.specs.Trails.{made, AreNew, IsJust, AreJust, assumed_by, assumed_in, Suits, HintsFrom, MarksAll, MarksMore, MarksClause, IsMarkedReason}
 use Rattle.wb_solve.specs.Turns.{FalsifiedAt}
 use Rattle.wb_solve.proofs.Partials.{assume_at}
-use Rattle.wb_solve.proofs.Underway.{AllNot, refute_other}
+use Rattle.wb_solve.proofs.Writing.{AllNot, refute_other}
 use Rattle.wb_solve.proofs.Trailing.{made_more, assume_other}
 
 abbrev In : ℕ → List ℕ → Type 0

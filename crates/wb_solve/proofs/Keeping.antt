@@ -1,11 +1,10 @@
 -- Clauses that are kept without repeated literals.
-use Rattle.std.proofs.Common.{◌≡◌, ◌⊎◌, inl, inr, List, [], ◌∷◌, Some, sym, subst}
+use Rattle.std.proofs.Common.{◌≡◌, inl, inr, List, [], ◌∷◌, sym, subst}
 use Rattle.wb_gate.specs.declared.gates.Lit.{Lit}
 use Rattle.wb_derive.specs.Partial.{Occurs}
-use Rattle.wb_solve.specs.declared.kept.Watched.{Watched}
 use Rattle.wb_solve.specs.declared.kept.Kept.{Kept}
 use Rattle.wb_solve.specs.declared.kept.Kept.TheVariants.{Empty, One, Wide}
-use Rattle.wb_solve.specs.Watching.{IsAmong, IsWide, IsKept}
+use Rattle.wb_solve.specs.Watching.{IsKept}
 
 kept_same : (clause other : List Lit) (k : Kept) → ((l : Lit) → Occurs l clause → Occurs l other) → ((l : Lit) → Occurs l other → Occurs l clause) → (clause ≡ [] → ⊥) → IsKept clause k → IsKept other k
 kept_same clause other Empty to back filled is = absurd (filled is)

@@ -8,7 +8,7 @@ pub mod Few
 pub mod Outcomes
 pub mod Stable
 pub mod Standings
-pub mod Underway
+pub mod Writing
 pub mod Findings
 pub mod Turning
 pub mod Searching

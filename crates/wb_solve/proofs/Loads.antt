@@ -1,7 +1,6 @@
 -- Clauses that are loaded one after the other.
-use Rattle.std.proofs.Common.{◌≡◌, ℕ, zero, suc, ◌+◌, ◌<◌, ◌≤◌, ◌⊎◌, inl, inr, Bool, true, List, [], ◌∷◌, ◌++◌, length, Some, refl, sym, ◌∙◌, ap, subst, arith, length-append}
+use Rattle.std.proofs.Common.{◌≡◌, ℕ, zero, suc, ◌+◌, ◌<◌, ◌≤◌, ◌⊎◌, inl, inr, true, List, [], ◌∷◌, ◌++◌, length, Some, refl, sym, ◌∙◌, ap, subst, arith, length-append}
 use Rattle.std.specs.List.{slice_get}
-use Rattle.std.proofs.lemmas.Option.{slice_get_within}
 use Rattle.wb_gate.specs.declared.gates.Lit.{Lit}
 use Rattle.wb_gate.specs.declared.gates.Gate.{Gate}
 use Rattle.wb_gate.specs.declared.gates.Gate.TheVariants.{And, Xor, Mux, Maj}
@@ -13,7 +12,7 @@ use Rattle.wb_solve.specs.declared.kept.Watched.{Watched}
 use Rattle.wb_solve.specs.declared.kept.Kept.{Kept}
 use Rattle.wb_solve.specs.declared.kept.Kept.TheVariants.{Empty, One, Wide}
 use Rattle.wb_solve.specs.declared.loading.Loaded.{Loaded}
-use Rattle.wb_solve.specs.Watching.{IsKept, AreKept, HasIn, Watchers, watchers, AreWatched, BelowAll}
+use Rattle.wb_solve.specs.Watching.{IsKept, HasIn, Watchers, watchers, BelowAll}
 use Rattle.wb_solve.specs.Loading.{IsLoadedTo, Watch, NowWatch}
 use Rattle.wb_solve.proofs.Lists.{get_left}
 use Rattle.wb_solve.proofs.Searching.{last_or_before, get_last}

@@ -1,24 +1,23 @@
 -- A clause that watches another literal from now on.
-use Rattle.std.proofs.Common.{◌≡◌, ℕ, zero, suc, ◌+◌, ◌-◌, ◌<◌, ◌≤◌, ◌⊎◌, inl, inr, Bool, true, false, not, if◌then◌else◌, eqb, List, [], ◌∷◌, ◌++◌, length, set, take, Option, Some, None, refl, sym, ◌∙◌, ap, ap₂, subst, arith, length-append, eq-eqb}
+use Rattle.std.proofs.Common.{◌≡◌, ℕ, zero, suc, ◌+◌, ◌<◌, ◌≤◌, ◌⊎◌, inl, inr, Bool, true, false, not, eqb, List, [], ◌∷◌, ◌++◌, length, set, take, Some, refl, sym, ◌∙◌, ap, ap₂, subst, arith, eq-eqb}
 use Rattle.std.specs.List.{slice_get}
 use Rattle.std.proofs.lemmas.Bool.{eqb-true}
 use Rattle.std.proofs.lemmas.List.{length-set}
 use Rattle.std.proofs.lemmas.Option.{slice_get_within}
 use Rattle.wb_gate.specs.declared.gates.Lit.{Lit}
-use Rattle.wb_gate.specs.Circuit.{Circuit, variables}
+use Rattle.wb_gate.specs.Circuit.{Circuit}
 use Rattle.wb_gate.specs.Clauses.{clauses_of}
-use Rattle.wb_derive.specs.Partial.{Partial, IsFalse, IsOpen, Occurs, assume}
+use Rattle.wb_derive.specs.Partial.{Partial, IsFalse, assume}
 use Rattle.wb_solve.specs.declared.kept.Watched.{Watched}
 use Rattle.wb_solve.specs.declared.kept.Kept.{Kept}
 use Rattle.wb_solve.specs.declared.kept.Kept.TheVariants.{Empty, One, Wide}
 use Rattle.wb_solve.specs.declared.trail.Entry.{Entry}
-use Rattle.wb_solve.specs.declared.trail.Reason.TheVariants.{Assumed}
 use Rattle.wb_solve.specs.declared.propagation.Next.TheVariants.{Stays, Watches}
 use Rattle.wb_solve.specs.Trails.{Holds, Track, made, AreNew, AreJust}
-use Rattle.wb_solve.specs.Watching.{IsAmong, IsWide, IsKept, AreKept, HasIn, Watchers, watchers, AreWatched, IsGuarded, AreGuarded, AreAsserted, NoneBlank, IsSettled, AreSettled, LosesAt, IsPair}
+use Rattle.wb_solve.specs.Watching.{IsAmong, IsWide, IsKept, AreKept, HasIn, Watchers, watchers, AreWatched, IsGuarded, AreGuarded, AreAsserted, NoneBlank, LosesAt, IsPair}
 use Rattle.wb_solve.specs.declared.propagation.Propagation.{Propagation}
 use Rattle.wb_solve.specs.declared.propagation.Visit.TheVariants as visit
-use Rattle.wb_solve.specs.Propagating.{IsNext, IsNextOf, AreDone, IsRunning, IsVisiting, IsVisitingAt, IsVisit, IsRewatched}
+use Rattle.wb_solve.specs.Propagating.{IsNext, IsNextOf, IsVisiting, IsVisitingAt, IsVisit, IsRewatched}
 use Rattle.wb_solve.proofs.Lists.{get_left}
 use Rattle.wb_solve.proofs.Partials.{Below, below_self, below_trans, below_assume}
 use Rattle.wb_solve.proofs.Searching.{get_last}

@@ -1,5 +1,5 @@
 -- Where all clauses are settled, none is falsified or unit.
-use Rattle.std.proofs.Common.{◌≡◌, ℕ, zero, suc, ◌+◌, ◌<◌, ◌≤◌, ◌⊎◌, inl, inr, Bool, not, List, [], ◌∷◌, ◌++◌, length, take, Some, None, refl, sym, ◌∙◌, ap, subst, arith}
+use Rattle.std.proofs.Common.{◌≡◌, ℕ, zero, suc, ◌<◌, ◌⊎◌, inl, inr, List, [], ◌∷◌, ◌++◌, length, take, Some, None, refl, sym, ◌∙◌, ap, subst, arith}
 use Rattle.std.specs.List.{slice_get}
 use Rattle.std.proofs.lemmas.Option.{slice_get_within}
 use Rattle.wb_gate.specs.declared.gates.Lit.{Lit}
@@ -9,7 +9,6 @@ use Rattle.wb_derive.specs.Partial.{Partial, IsFalse, IsOpen, IsFalsified, Occur
 use Rattle.wb_solve.specs.declared.kept.Watched.{Watched}
 use Rattle.wb_solve.specs.declared.kept.Kept.{Kept}
 use Rattle.wb_solve.specs.declared.kept.Kept.TheVariants.{Empty, One, Wide}
-use Rattle.wb_solve.specs.declared.trail.Entry.{Entry}
 use Rattle.wb_solve.specs.declared.trail.Reason.{Reason}
 use Rattle.wb_solve.specs.declared.trail.Reason.TheVariants.{Assumed}
 use Rattle.wb_solve.specs.Descent.{IsStable}

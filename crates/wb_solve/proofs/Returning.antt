@@ -1,19 +1,19 @@
 -- Going back from the last assumption, which the new step makes false.
-use Rattle.std.proofs.Common.{◌≡◌, ℕ, zero, suc, ◌+◌, ◌-◌, ◌<◌, ◌≤◌, ◌⊎◌, inl, inr, Bool, true, false, not, List, [], ◌∷◌, ◌++◌, length, map, take, Option, Some, None, refl, sym, ◌∙◌, ap, subst, arith, length-append, append_assoc}
+use Rattle.std.proofs.Common.{◌≡◌, ℕ, ◌+◌, ◌<◌, ◌≤◌, ◌⊎◌, inl, inr, Bool, true, false, not, List, [], ◌∷◌, ◌++◌, length, take, Option, Some, None, refl, sym, ◌∙◌, ap, subst, arith, append_assoc}
 use Rattle.std.specs.List.{slice_get}
 use Rattle.std.proofs.lemmas.List.{append-nil, map-append}
 use Rattle.std.proofs.lemmas.Option.{slice_get_within}
 use Rattle.wb_gate.specs.declared.gates.Lit.{Lit}
 use Rattle.wb_gate.specs.Circuit.{Circuit, variable}
 use Rattle.wb_gate.specs.Clauses.{clauses_of}
-use Rattle.wb_derive.specs.Partial.{Partial, assume, IsFalse, IsOpen, Occurs, IsUnit}
+use Rattle.wb_derive.specs.Partial.{Partial, assume, IsFalse, Occurs}
 use Rattle.wb_solve.specs.declared.kept.Kept.{Kept}
 use Rattle.wb_solve.specs.declared.trail.Entry.{Entry}
 use Rattle.wb_solve.specs.declared.trail.Reason.{Reason}
 use Rattle.wb_solve.specs.declared.trail.Reason.TheVariants.{Assumed, Clause}
 use Rattle.wb_solve.specs.Descent.{IsFirstOpen, IsUnitAt, clause_of, AreValued}
 use Rattle.wb_solve.specs.Trails.{Holds, Track, made, IsJust, AreJust, assumed_by, assumed_in}
-use Rattle.wb_solve.specs.Watching.{Watchers, AreGuarded, IsSettled, AreSettled, IsHeld, Waits, AreHeld}
+use Rattle.wb_solve.specs.Watching.{Watchers, AreGuarded, IsSettled, AreSettled, IsHeld, Waits}
 use Rattle.wb_solve.specs.Propagating.{IsRunning}
 use Rattle.wb_solve.proofs.Lists.{get_left, get_after}
 use Rattle.wb_solve.proofs.Partials.{Below, below_assume, assume_at}
@@ -119,11 +119,15 @@ module _ (c : Circuit) (steps : List (List Lit)) (kept : List Kept) (lists : Wat
   x_in = subst (Occurs (variable x)) (sym clause_is) (occurs_right (clause_of (assumed_in front)) (variable x ∷ []) (variable x) (inl refl))
 
   unit : IsUnitAt (clauses_of c ++ more) p number (variable x)
-  unit = (clause, found, record {
-    there = x_in;
-    still_open = first.still_open;
-    others = all_false (variable x) p clause (λ m o. by m (occurs_split (clause_of (assumed_in front)) (variable x ∷ []) m (subst (Occurs m) clause_is o)));
-  })
+  unit = (
+    clause,
+    found,
+    record {
+      there = x_in;
+      still_open = first.still_open;
+      others = all_false (variable x) p clause (λ m o. by m (occurs_split (clause_of (assumed_in front)) (variable x ∷ []) m (subst (Occurs m) clause_is o)));
+    },
+  )
     where
       by : (m : Lit) → Occurs m (clause_of (assumed_in front)) ⊎ Occurs m (variable x ∷ []) → (m ≡ variable x) ⊎ IsFalse p m
       by m (inl before) = inr (names_false m before)

@@ -1,9 +1,9 @@
 -- Lists of lists, of which one changes.
-use Rattle.std.proofs.Common.{◌≡◌, ℕ, zero, suc, ◌+◌, ◌-◌, ◌<◌, ◌≤◌, ◌⊎◌, inl, inr, List, [], ◌∷◌, ◌++◌, length, map, set, take, slice_index_or, Option, Some, None, refl, sym, ◌∙◌, ap, subst, arith, length-append}
+use Rattle.std.proofs.Common.{◌≡◌, ℕ, zero, suc, ◌-◌, ◌<◌, ◌≤◌, ◌⊎◌, inl, inr, List, [], ◌∷◌, ◌++◌, length, map, set, take, slice_index_or, Some, refl, sym, ◌∙◌, ap, subst, arith}
 use Rattle.std.specs.List.{slice_get, swap_remove}
 use Rattle.std.proofs.lemmas.List.{length-set, length-take-le, length-map}
 use Rattle.std.proofs.lemmas.Option.{slice_get_within}
-use Rattle.wb_solve.specs.Watching.{HasIn, list_in, list_at, LosesAt}
+use Rattle.wb_solve.specs.Watching.{HasIn, list_at, LosesAt}
 use Rattle.wb_solve.proofs.Lists.{get_taken}
 
 pub put_same : {X : Type 0} (xs : List X) (i : ℕ) (x : X) → i < length xs → slice_get (set xs i x) i ≡ Some x

@@ -1,20 +1,17 @@
 -- Trails that grow and shrink at their end.
-use Rattle.std.proofs.Common.{◌≡◌, ℕ, zero, suc, ◌+◌, ◌<◌, ◌≤◌, ◌⊎◌, inl, inr, Bool, true, false, not, if◌then◌else◌, eqb, List, [], ◌∷◌, ◌++◌, length, set, take, replicate, Option, Some, None, refl, sym, ◌∙◌, ap, subst, arith, length-append, append_assoc, eq-eqb}
+use Rattle.std.proofs.Common.{◌≡◌, ℕ, zero, suc, ◌+◌, ◌<◌, ◌⊎◌, inl, inr, Bool, true, false, not, if◌then◌else◌, eqb, List, [], ◌∷◌, ◌++◌, length, set, take, replicate, Option, Some, None, refl, sym, ◌∙◌, ap, subst, arith, length-append, eq-eqb}
 use Rattle.std.specs.List.{slice_get, fold}
 use Rattle.std.proofs.lemmas.Bool.{eqb-true}
 use Rattle.std.proofs.lemmas.List.{length-set, length-replicate}
 use Rattle.std.proofs.lemmas.Option.{slice_get_within}
 use Rattle.wb_gate.specs.declared.gates.Lit.{Lit}
-use Rattle.wb_gate.specs.Circuit.{minus, variable}
 use Rattle.wb_derive.specs.Partial.{Partial, nothing, assume}
 use Rattle.wb_solve.specs.declared.trail.Entry.{Entry}
-use Rattle.wb_solve.specs.declared.trail.Reason.{Reason}
-use Rattle.wb_solve.specs.declared.trail.Reason.TheVariants.{Assumed, Clause}
 use Rattle.wb_solve.specs.Course.{value_in, partial_of, opens}
-use Rattle.wb_solve.specs.Trails.{Holds, made, AreNew, IsTrail, IsJust, AreJust, assumed_by, assumed_in}
-use Rattle.wb_solve.proofs.Lists.{get_left, get_taken}
+use Rattle.wb_solve.specs.Trails.{made, AreNew, IsTrail}
+use Rattle.wb_solve.proofs.Lists.{get_left}
 use Rattle.wb_solve.proofs.Partials.{assume_at}
-use Rattle.wb_solve.proofs.Underway.{set_same, set_other, partial_set, partial_none}
+use Rattle.wb_solve.proofs.Writing.{set_other, partial_set, partial_none}
 use Rattle.wb_solve.proofs.Searching.{take_all, take_front, last_or_before, get_last}
 
 fold_push : (p : Partial) (es : List Entry) (e : Entry) → fold (λ q d. assume q d.lit) p (es ++ (e ∷ [])) ≡ assume (fold (λ q d. assume q d.lit) p es) e.lit

@@ -1,33 +1,29 @@
 -- Clauses that watch a literal are visited one after the other.
-use Rattle.std.proofs.Common.{◌≡◌, ℕ, zero, suc, ◌+◌, ◌-◌, ◌<◌, ◌≤◌, ◌⊎◌, inl, inr, Bool, true, false, not, if◌then◌else◌, eqb, List, [], ◌∷◌, ◌++◌, length, set, take, Option, Some, None, refl, sym, ◌∙◌, ap, ap₂, subst, arith, length-append, eq-eqb}
+use Rattle.std.proofs.Common.{◌≡◌, ℕ, suc, ◌+◌, ◌<◌, ◌≤◌, ◌⊎◌, inl, inr, Bool, true, false, not, if◌then◌else◌, eqb, List, [], ◌∷◌, ◌++◌, length, take, Some, None, refl, sym, ◌∙◌, ap, ap₂, subst, arith}
 use Rattle.std.specs.List.{slice_get}
 use Rattle.std.proofs.lemmas.Bool.{eqb-true}
-use Rattle.std.proofs.lemmas.List.{length-set, append-nil}
 use Rattle.std.proofs.lemmas.Option.{slice_get_within}
 use Rattle.wb_gate.specs.declared.gates.Lit.{Lit}
-use Rattle.wb_gate.specs.Circuit.{Circuit, variables, minus, variable}
-use Rattle.wb_gate.specs.Clauses.{clauses_of, names_only}
-use Rattle.wb_derive.specs.Partial.{Partial, nothing, assume, IsFalse, IsOpen, IsFalsified, Occurs, AreFalseBut, IsUnit}
+use Rattle.wb_gate.specs.Circuit.{Circuit, variables}
+use Rattle.wb_gate.specs.Clauses.{clauses_of}
+use Rattle.wb_derive.specs.Partial.{Partial, assume, IsFalse, IsOpen, IsFalsified, Occurs, AreFalseBut}
 use Rattle.wb_solve.specs.declared.kept.Watched.{Watched}
 use Rattle.wb_solve.specs.declared.kept.Kept.{Kept}
-use Rattle.wb_solve.specs.declared.kept.Kept.TheVariants.{Empty, One, Wide}
+use Rattle.wb_solve.specs.declared.kept.Kept.TheVariants.{Wide}
 use Rattle.wb_solve.specs.declared.trail.Entry.{Entry}
-use Rattle.wb_solve.specs.declared.trail.Reason.{Reason}
 use Rattle.wb_solve.specs.declared.trail.Reason.TheVariants.{Assumed, Clause}
-use Rattle.wb_solve.specs.declared.propagation.Next.TheVariants.{Stays, Watches, Makes, Falsified}
-use Rattle.wb_solve.specs.Descent.{IsUnitAt, IsStable}
+use Rattle.wb_solve.specs.declared.propagation.Next.TheVariants.{Stays, Makes, Falsified}
+use Rattle.wb_solve.specs.Descent.{IsUnitAt}
 use Rattle.wb_solve.specs.Turns.{FalsifiedAt}
-use Rattle.wb_solve.specs.Trails.{Holds, Track, AllNamed, made, IsJust, AreJust, assumed_in}
-use Rattle.wb_solve.specs.Watching.{IsAmong, IsWide, IsKept, AreKept, HasIn, Watchers, watchers, AreWatched, IsGuarded, AreGuarded, AreAsserted, NoneBlank, IsSettled, AreSettled, IsHeld, Waits, AreHeld, LosesAt, IsPair}
-use Rattle.wb_solve.specs.Propagating.{IsNext, IsNextOf, AreDone, IsRunning, IsVisiting}
+use Rattle.wb_solve.specs.Trails.{Holds, Track, made, IsJust, AreJust}
+use Rattle.wb_solve.specs.Watching.{IsAmong, IsWide, HasIn, Watchers, watchers, AreGuarded, IsSettled, AreSettled, IsHeld, Waits, IsPair}
+use Rattle.wb_solve.specs.Propagating.{IsNext, IsNextOf, IsRunning, IsVisiting}
 use Rattle.wb_solve.proofs.Lists.{get_left}
-use Rattle.wb_solve.proofs.Partials.{Below, below_self, below_assume, assume_at}
-use Rattle.wb_solve.proofs.Outcomes.{get_within}
+use Rattle.wb_solve.proofs.Partials.{Below, below_assume, assume_at}
 use Rattle.wb_solve.proofs.Findings.{occurs_below}
-use Rattle.wb_solve.proofs.Searching.{take_all, take_front, last_or_before, get_last}
-use Rattle.wb_solve.proofs.Trailing.{made_push, made_more, assume_other, at_pushed}
+use Rattle.wb_solve.proofs.Searching.{take_front}
+use Rattle.wb_solve.proofs.Trailing.{made_push, made_more, at_pushed}
 use Rattle.wb_solve.proofs.Hinting.{above, just_new, valued_later}
-use Rattle.wb_solve.proofs.Tables.{put_same, put_other}
 
 -- a literal isn't both
 pub not_both : (p : Partial) (l : Lit) → IsFalse p l → Holds p l → ⊥
@@ -167,12 +163,15 @@ module _ (c : Circuit) (steps : List (List Lit)) where
     -- a unit clause
     pub visiting_unit : (number : ℕ) (w : Watched) (m : Lit) → slice_get kept number ≡ Some (Wide w) → IsNext p w l (Makes m) → IsUnitAt known p number m
     visiting_unit number w m at next =
-        let clause = clause_of_kept number w at in
-        (clause.0, get_left (clauses_of c) steps number clause.0 clause.1, record {
-          there = clause.2.there m (other_among w m next.0);
-          still_open = next.1;
-          others = all_false m p clause.0 (λ k o. others_false w m next.0 next.2 k (clause.2.here k o));
-        })
+        let clause = clause_of_kept number w at in (
+          clause.0,
+          get_left (clauses_of c) steps number clause.0 clause.1,
+          record {
+            there = clause.2.there m (other_among w m next.0);
+            still_open = next.1;
+            others = all_false m p clause.0 (λ k o. others_false w m next.0 next.2 k (clause.2.here k o));
+          },
+        )
 
     pub unit_below : (number : ℕ) (w : Watched) (m : Lit) → slice_get kept number ≡ Some (Wide w) → IsAmong m w → m.var < variables c
     unit_below number w m at among =

@@ -1,22 +1,15 @@
 -- Descents end, and a trail leads through the one that its assumptions make.
-use Rattle.std.proofs.Common.{◌≡◌, ℕ, zero, suc, ◌+◌, ◌<◌, ◌≤◌, ◌⊎◌, inl, inr, Bool, true, false, not, if◌then◌else◌, eqb, List, [], ◌∷◌, ◌++◌, length, take, Option, Some, None, refl, sym, ◌∙◌, ap, subst, arith, eq-eqb}
+use Rattle.std.proofs.Common.{◌≡◌, ℕ, zero, suc, ◌+◌, ◌<◌, ◌≤◌, ◌⊎◌, inl, inr, Bool, true, false, not, if◌then◌else◌, List, [], ◌∷◌, ◌++◌, length, take, Option, Some, None, refl, sym, ◌∙◌, ap, subst, arith}
 use Rattle.std.specs.List.{slice_get}
-use Rattle.std.proofs.lemmas.Bool.{eqb-true}
-use Rattle.std.proofs.lemmas.Option.{slice_get_within}
 use Rattle.std.proofs.lemmas.List.{append-nil}
 use Rattle.wb_gate.specs.declared.gates.Lit.{Lit}
 use Rattle.wb_gate.specs.Circuit.{minus, variable}
-use Rattle.wb_derive.specs.Partial.{Partial, nothing, assume, IsFalsified}
-use Rattle.wb_solve.specs.declared.standing.Standing.{Standing}
-use Rattle.wb_solve.specs.declared.standing.Standing.TheVariants.{Falsified, Other}
-use Rattle.wb_solve.specs.declared.standing.Standing.TheVariants.{Unit as UnitOf}
-use Rattle.wb_solve.specs.declared.scans.Found.{Found}
-use Rattle.wb_solve.specs.declared.scans.Found.TheVariants as found
+use Rattle.wb_derive.specs.Partial.{Partial, nothing, assume}
 use Rattle.wb_solve.specs.declared.trail.Entry.{Entry}
 use Rattle.wb_solve.specs.declared.trail.Reason.{Reason}
 use Rattle.wb_solve.specs.declared.trail.Reason.TheVariants.{Assumed, Clause}
-use Rattle.wb_solve.specs.Descent.{SomeFalsified, IsUnitAt, IsStable, AreValued, IsFirstOpen, Ended, Conflict, Values, clause_of, conflicts, propagates, assumes, gives, Descends, DescendsInSomeOrder, IsDescent, rests, goes_on}
-use Rattle.wb_solve.specs.Course.{is_none, IsFound, noted, standing, IsStanding}
+use Rattle.wb_solve.specs.Descent.{IsStable, AreValued, IsFirstOpen, Ended, Conflict, Values, clause_of, conflicts, propagates, assumes, gives, Descends, DescendsInSomeOrder, IsDescent, rests, goes_on}
+use Rattle.wb_solve.specs.Course.{Standing, Falsified, UnitOf, Other, Found, FalsifiedFound, UnitFound, NoneFound, is_none, IsFound, noted, standing, IsStanding}
 use Rattle.wb_solve.specs.Trails.{AllNamed, made, IsJust, AreJust, assumed_by, assumed_in, AreStable}
 use Rattle.wb_solve.proofs.Partials.{assume_at}
 use Rattle.wb_solve.proofs.Outcomes.{get_within}
@@ -87,7 +80,7 @@ first_open (suc m) p = by (first_open m p)
 
 module _ (inputs n : ℕ) (known : List (List Lit)) (named : AllNamed n known) (few : inputs ≤ n) where
   scan_to : (p : Partial) (k : ℕ) → k ≤ length known → (f : Found) × IsFound known p n k f
-  scan_to p zero h = (found.Nothing, found_none known p n)
+  scan_to p zero h = (NoneFound, found_none known p n)
   scan_to p (suc k) h = subst (λ m. (f : Found) × IsFound known p n m f) (omega arith) (by (scan_to p k (omega arith)) (get_within known k (omega arith)))
     where
       differ : (l : Lit) → UnitOf l ≡ Falsified → ⊥
@@ -97,7 +90,7 @@ module _ (inputs n : ℕ) (known : List (List Lit)) (named : AllNamed n known) (
       other e = cc
 
       with_standing : (before : (f : Found) × IsFound known p n k f) (at : (clause : List Lit) × (slice_get known k ≡ Some clause)) (s : Standing) → IsStanding p at.0 s → (f : Found) × IsFound known p n (k + 1) f
-      with_standing before at Falsified is = (found.Falsified k, (at.0, at.1, is))
+      with_standing before at Falsified is = (FalsifiedFound k, (at.0, at.1, is))
       with_standing before at (UnitOf l) is =
           (noted before.0 k (UnitOf l), found_more known p n k before.0 (UnitOf l) before.1 (at.0, at.1, is) (unit_within n p at.0 (UnitOf l) (named k at.0 at.1) is) (differ l))
       with_standing before at Other is =
@@ -119,12 +112,12 @@ module _ (inputs n : ℕ) (known : List (List Lit)) (named : AllNamed n known) (
       with_open later stable (inr all) = (Values p, gives p assumed stable all refl)
 
       by : ((q : Partial) (a : List ℕ) → open_count n q < fuel → (end : Ended) × Descends inputs known end q a) → (f : Found) × IsFound known p n (length known) f → (end : Ended) × Descends inputs known end p assumed
-      by later (found.Falsified number, is) = (Conflict (clause_of assumed), conflicts p assumed (number, is.0, is.1, is.2) refl)
-      by later (found.Unit number l, is) =
+      by later (FalsifiedFound number, is) = (Conflict (clause_of assumed), conflicts p assumed (number, is.0, is.1, is.2) refl)
+      by later (UnitFound number l, is) =
           let less = count_less n p l is.3 is.1.2.still_open in
           let rest = later (assume p l) assumed (omega arith) in
           (rest.0, propagates p assumed l (none_falsified known p is.0) (number, is.1, is.2) rest.1)
-      by later (found.Nothing, is) = with_open later (stable_from known p is.0 is.1) (first_open inputs p)
+      by later (NoneFound, is) = with_open later (stable_from known p is.0 is.1) (first_open inputs p)
 
   -- from any values a descent ends
   pub total : (p : Partial) (assumed : List ℕ) → (end : Ended) × Descends inputs known end p assumed
@@ -155,12 +148,12 @@ module _ (inputs n : ℕ) (known : List (List Lit)) (named : AllNamed n known) (
         let assumed = assumed_in (take k entries) in
         let front = take_more entries k e at in
         let same_assumed : assumed_in (take (suc k) entries) ≡ assumed =
-            ap assumed_in front ∙ assumed_push (take k entries) e ∙ ap (λ (r : Reason). assumed ++ assumed_by e.lit r) is_clause ∙ append-nil assumed in
+        ap assumed_in front ∙ assumed_push (take k entries) e ∙ ap (λ (r : Reason). assumed ++ assumed_by e.lit r) is_clause ∙ append-nil assumed in
         let rest = total q assumed in
         let rest_some = some_order inputs known rest.0 q assumed rest.1 in
         let at_next : DescendsInSomeOrder inputs known rest.0 (made (take (suc k) entries)) (assumed_in (take (suc k) entries)) =
-            subst (λ v. DescendsInSomeOrder inputs known rest.0 v (assumed_in (take (suc k) entries))) (sym (made_more entries k e at))
-            (subst (λ xs. DescendsInSomeOrder inputs known rest.0 q xs) (sym same_assumed) rest_some) in
+        subst (λ v. DescendsInSomeOrder inputs known rest.0 v (assumed_in (take (suc k) entries))) (sym (made_more entries k e at))
+        (subst (λ xs. DescendsInSomeOrder inputs known rest.0 q xs) (sym same_assumed) rest_some) in
         let here = later rest.0 at_next in
         here ∙ alike inputs known rest.0 other q assumed rest_some p p (goes_on p q e.lit (number, just_e) (rests q)) (rests p) descends
     step_back k e Assumed at is_assumed just_e later other descends =
@@ -170,13 +163,13 @@ module _ (inputs n : ℕ) (known : List (List Lit)) (named : AllNamed n known) (
         let assumed = assumed_in (take k entries) in
         let front = take_more entries k e at in
         let same_assumed : assumed_in (take (suc k) entries) ≡ assumed ++ (x ∷ []) =
-            ap assumed_in front ∙ assumed_push (take k entries) e ∙ ap (λ (r : Reason). assumed ++ assumed_by e.lit r) is_assumed in
+        ap assumed_in front ∙ assumed_push (take k entries) e ∙ ap (λ (r : Reason). assumed ++ assumed_by e.lit r) is_assumed in
         let same_made : made (take (suc k) entries) ≡ assume p l = made_more entries k e at ∙ ap (assume p) (minus_is e.lit just_e.1) in
         let rest = total (assume p l) (assumed ++ (x ∷ [])) in
         let rest_some = some_order inputs known rest.0 (assume p l) (assumed ++ (x ∷ [])) rest.1 in
         let at_next : DescendsInSomeOrder inputs known rest.0 (made (take (suc k) entries)) (assumed_in (take (suc k) entries)) =
-            subst (λ v. DescendsInSomeOrder inputs known rest.0 v (assumed_in (take (suc k) entries))) (sym same_made)
-            (subst (λ xs. DescendsInSomeOrder inputs known rest.0 (assume p l) xs) (sym same_assumed) rest_some) in
+        subst (λ v. DescendsInSomeOrder inputs known rest.0 v (assumed_in (take (suc k) entries))) (sym same_made)
+        (subst (λ xs. DescendsInSomeOrder inputs known rest.0 (assume p l) xs) (sym same_assumed) rest_some) in
         let here = later rest.0 at_next in
         let whole = assumes p assumed x (stable k e at is_assumed) just_e.0 rest_some in
         here ∙ one_end inputs known rest.0 other p assumed whole descends

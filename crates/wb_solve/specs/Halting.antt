@@ -1,5 +1,5 @@
 -- Descents over one trail: where they stand, and how they end.
-use Rattle.std.specs.Prelude.{◌≡◌, ℕ, ◌+◌, ◌<◌, ◌≤◌, ◌⊎◌, List, [], ◌∷◌, ◌++◌, length}
+use Rattle.std.specs.Prelude.{◌≡◌, ℕ, ◌+◌, ◌≤◌, ◌⊎◌, List, [], ◌∷◌, ◌++◌, length}
 use Rattle.wb_gate.specs.declared.gates.Lit.{Lit}
 use Rattle.wb_gate.specs.Circuit.{Circuit, variables}
 use Rattle.wb_gate.specs.Clauses.{clauses_of}

@@ -1,5 +1,5 @@
 -- What propagation by watched literals keeps.
-use Rattle.std.specs.Prelude.{◌≡◌, ℕ, ◌+◌, ◌<◌, ◌≤◌, ◌⊎◌, List, [], ◌∷◌, ◌++◌, length, slice_set, take, Option, Some, None}
+use Rattle.std.specs.Prelude.{◌≡◌, ℕ, ◌+◌, ◌<◌, List, [], ◌∷◌, ◌++◌, length, slice_set, take, Option, Some, None}
 use Rattle.std.specs.List.{slice_get}
 use Rattle.wb_gate.specs.declared.gates.Lit.{Lit}
 use Rattle.wb_gate.specs.Circuit.{Circuit, variables, minus}
@@ -7,7 +7,7 @@ use Rattle.wb_gate.specs.Clauses.{clauses_of}
 use Rattle.wb_derive.specs.Partial.{Partial, IsFalse, IsOpen}
 use Rattle.wb_solve.specs.declared.kept.Watched.{Watched}
 use Rattle.wb_solve.specs.declared.kept.Kept.{Kept}
-use Rattle.wb_solve.specs.declared.kept.Kept.TheVariants.{Empty, One, Wide}
+use Rattle.wb_solve.specs.declared.kept.Kept.TheVariants.{Wide}
 use Rattle.wb_solve.specs.declared.trail.Entry.{Entry}
 use Rattle.wb_solve.specs.declared.propagation.Truth.{Truth}
 use Rattle.wb_solve.specs.declared.propagation.Truth.TheVariants as truth

@@ -1,17 +1,15 @@
 -- Clauses that are watched by two of their literals.
-use Rattle.std.specs.Prelude.{◌≡◌, ℕ, ◌+◌, ◌<◌, ◌≤◌, Bool, true, false, if◌then◌else◌, ◌⊎◌, List, [], ◌∷◌, ◌++◌, length, take, Option, Some, None}
+use Rattle.std.specs.Prelude.{◌≡◌, ℕ, ◌+◌, ◌<◌, if◌then◌else◌, ◌⊎◌, List, [], length, take, Option, Some, None}
 use Rattle.std.specs.List.{slice_get}
 use Rattle.wb_gate.specs.declared.gates.Lit.{Lit}
-use Rattle.wb_gate.specs.Circuit.{Circuit, variable}
-use Rattle.wb_gate.specs.Clauses.{clauses_of}
+use Rattle.wb_gate.specs.Circuit.{variable}
 use Rattle.wb_derive.specs.Partial.{Partial, IsFalse, IsOpen, Occurs}
 use Rattle.wb_solve.specs.declared.kept.Watched.{Watched}
 use Rattle.wb_solve.specs.declared.kept.Kept.{Kept}
 use Rattle.wb_solve.specs.declared.kept.Kept.TheVariants.{Empty, One, Wide}
 use Rattle.wb_solve.specs.declared.trail.Entry.{Entry}
-use Rattle.wb_solve.specs.declared.trail.Reason.{Reason}
-use Rattle.wb_solve.specs.declared.trail.Reason.TheVariants.{Assumed, Clause}
-use Rattle.wb_solve.specs.Trails.{Holds, made, AreJust, assumed_in}
+use Rattle.wb_solve.specs.declared.trail.Reason.TheVariants.{Assumed}
+use Rattle.wb_solve.specs.Trails.{Holds, made}
 
 -- the literal is one of the clause's
 abbrev pub IsAmong : Lit → Watched → Type 0

@@ -75,12 +75,7 @@ impl Descents {
     }
 
     /// Assumes a variable false.
-    fn assume(
-        &mut self,
-        formula: &Formula,
-        steps: &[Step],
-        var: u32,
-    ) -> Result<(), OutOfMemory>
+    fn assume(&mut self, formula: &Formula, steps: &[Step], var: u32) -> Result<(), OutOfMemory>
         requires ready { IsReady formula.now (clauses_in steps.now) (length self.old.propagation.trail.entries) self.old }
         requires first { IsFirstOpen formula.now.inputs (made self.old.propagation.trail.entries) var }
         ensures { OnOk result (IsDecided formula.now (clauses_in steps.now) self.old self.new) }

@@ -1,5 +1,4 @@
-use Rattle.std.proofs.Common.{◌≡◌, [], length}
-use Rattle.wb_solve.specs.Trails.{assumed_in}
+use Rattle.std.proofs.Common.{◌≡◌, length}
 use Rattle.wb_solve.specs.Propagating.{Grows}
 use Rattle.wb_solve.proofs.decisions.take_back.Given as goal
 

@@ -1,13 +1,7 @@
-use Rattle.std.proofs.Common.{◌≡◌, ◌<◌, ◌≤◌, ◌+◌, ◌-◌, ◌∷◌, [], suc, refl, ◌++◌, length, reverse, Some, ◌∙◌, sym, ap, subst, arith}
-use Rattle.std.specs.List.{slice_get}
+use Rattle.std.proofs.Common.{◌-◌, ◌∷◌, [], refl, ◌++◌, reverse, ◌∙◌, ap, arith}
 use Rattle.std.proofs.lemmas.Option.{slice_get_within}
-use Rattle.wb_gate.specs.Circuit.{variables}
-use Rattle.wb_derive.specs.Partial.{nothing, refute}
-use Rattle.wb_derive.specs.Lawful.{Refutes}
 use Rattle.wb_solve.specs.Course.{known_to}
-use Rattle.wb_solve.specs.Descent.{IsUnitAt}
-use Rattle.wb_solve.specs.declared.trail.Reason.{Reason}
-use Rattle.wb_solve.specs.Trails.{made, IsJust, marked, HintsFrom, MarksAll, IsMarkedReason}
+use Rattle.wb_solve.specs.Trails.{marked}
 use Rattle.wb_solve.proofs.Hinting.{hints_begin, hints_taken, hints_passed, hints_end, just_unit, none_reason}
 use Rattle.wb_solve.proofs.hints.hints_of.Goals as goal
 

@@ -1,9 +1,7 @@
 use Rattle.std.proofs.Common.{◌≡◌, ◌<◌, ◌+◌, ◌-◌, length, Some, ◌∙◌, sym, ap, subst, arith}
 use Rattle.std.specs.List.{slice_get}
 use Rattle.std.proofs.lemmas.Option.{slice_get-get_or}
-use Rattle.wb_gate.specs.declared.gates.Lit.{Lit}
-use Rattle.wb_gate.specs.Circuit.{variables}
-use Rattle.wb_gate.specs.Clauses.{names_only, clauses_of}
+use Rattle.wb_gate.specs.Clauses.{clauses_of}
 use Rattle.wb_derive.specs.declared.steps.Step.{Step}
 use Rattle.wb_solve.specs.Course.{known_to}
 use Rattle.wb_solve.specs.Trails.{marked, MarksAll}

@@ -1,9 +1,8 @@
-use Rattle.std.proofs.Common.{◌≡◌, ◌-◌, length, take, refl, ◌∙◌, sym, ap, subst, arith}
+use Rattle.std.proofs.Common.{◌≡◌, ◌-◌, length, take, refl, ◌∙◌, sym, ap, subst}
 use Rattle.wb_solve.specs.Search.{clauses_in}
-use Rattle.wb_solve.specs.Course.{known_to}
 use Rattle.wb_solve.specs.Halting.{IsReady}
 use Rattle.wb_solve.specs.declared.decisions.Descents.{Descents}
-use Rattle.wb_solve.proofs.Halts.{taken_open, names_filled, resumed}
+use Rattle.wb_solve.proofs.Halts.{taken_open, resumed}
 use Rattle.wb_solve.proofs.decisions.Descents.go_back.Goals as goal
 
 pub push-requires-clause-below : goal.push-requires-clause-below

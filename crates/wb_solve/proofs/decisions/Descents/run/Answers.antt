@@ -1,4 +1,4 @@
-use Rattle.std.proofs.Common.{◌≡◌, length, None, Some, refl, subst}
+use Rattle.std.proofs.Common.{length, refl, subst}
 use Rattle.wb_solve.specs.Search.{clauses_in}
 use Rattle.wb_solve.specs.declared.decisions.Descents.{Descents}
 use Rattle.wb_solve.specs.Propagating.{IsPassed}

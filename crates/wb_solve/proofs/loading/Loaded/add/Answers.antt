@@ -1,4 +1,4 @@
-use Rattle.std.proofs.Common.{◌≡◌, ◌≤◌, length, sym, subst}
+use Rattle.std.proofs.Common.{◌≤◌, length, sym, subst}
 use Rattle.wb_gate.specs.Circuit.{variables}
 use Rattle.wb_solve.specs.Watching.{IsKept}
 use Rattle.wb_solve.proofs.Loads.{clause_short, kept_below, loaded_more}

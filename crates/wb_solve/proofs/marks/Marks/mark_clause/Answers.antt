@@ -1,5 +1,5 @@
-use Rattle.std.proofs.Common.{rules, ◌≡◌, true, length, ◌∙◌, sym, ap, arith}
-use Rattle.wb_solve.specs.Trails.{marked, MarksAll, MarksMore}
+use Rattle.std.proofs.Common.{length, ◌∙◌, sym, arith}
+use Rattle.wb_solve.specs.Trails.{marked}
 use Rattle.wb_solve.proofs.Marking.{marks_taken, named_less}
 use Rattle.wb_solve.proofs.marks.Marks.mark_clause.Goals as goal
 

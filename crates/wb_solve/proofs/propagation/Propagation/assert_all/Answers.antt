@@ -1,4 +1,4 @@
-use Rattle.std.proofs.Common.{rules, ◌≡◌, false, length, subst, arith}
+use Rattle.std.proofs.Common.{◌≡◌, false, length, subst, arith}
 use Rattle.wb_gate.specs.Clauses.{clauses_of}
 use Rattle.wb_solve.specs.Starting.{IsAsserted}
 use Rattle.wb_solve.proofs.Beginning.{started_blocked, started_all}

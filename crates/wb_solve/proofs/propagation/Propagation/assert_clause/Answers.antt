@@ -1,11 +1,8 @@
-use Rattle.std.proofs.Common.{◌≡◌, refl, Some, ◌∙◌, sym, ap, subst}
+use Rattle.std.proofs.Common.{◌≡◌, refl, Some, ◌∙◌, sym, ap}
 use Rattle.std.specs.List.{slice_get}
 use Rattle.std.proofs.lemmas.Option.{slice_get-get_or}
 use Rattle.wb_solve.specs.declared.kept.Kept.{Kept}
 use Rattle.wb_solve.specs.declared.kept.Kept.TheVariants.{Empty, One, Wide}
-use Rattle.wb_solve.specs.declared.propagation.Truth.TheVariants as truth
-use Rattle.wb_solve.specs.Trails.{made}
-use Rattle.wb_solve.specs.Propagating.{IsTruth}
 use Rattle.wb_solve.proofs.Beginning.{asserted_true, asserted_wide, asserted_false, asserted_empty, asserted_below, asserted_push}
 use Rattle.wb_solve.proofs.propagation.Propagation.assert_clause.Goals as goal
 

@@ -1,4 +1,4 @@
-use Rattle.std.proofs.Common.{◌≡◌, ◌<◌, ◌≤◌, ◌+◌, length, subst, sym, arith}
+use Rattle.std.proofs.Common.{arith}
 use Rattle.wb_solve.specs.Search.{clauses_in}
 use Rattle.wb_solve.proofs.Growing.{grows_trans, grows_longer, done_whole, done_next}
 use Rattle.wb_solve.proofs.propagation.Propagation.propagate.Goals as goal

@@ -1,4 +1,4 @@
-use Rattle.std.proofs.Common.{◌≡◌, ◌<◌, length, refl, inl, inr, sym, subst, arith}
+use Rattle.std.proofs.Common.{refl, subst, arith}
 use Rattle.wb_solve.specs.declared.propagation.Next.TheVariants.{Watches, Makes, Falsified}
 use Rattle.wb_solve.specs.Search.{clauses_in}
 use Rattle.wb_solve.specs.Trails.{made}
@@ -20,7 +20,7 @@ push-requires-clause-below c =
     let steps = clauses_in c.args.steps.now in
     let next = subst (λ kept. IsNextOf kept (made s.trail.entries) c.clause-number.result c.args.lit (Makes c.in-Makes.open)) c.as_slice.ensures.value c.in-Makes.ensures in
     let below = unit_below f steps s.kept.items s.watches s.trail c.args.head c.args.lit c.args.place c.requires.visiting c.clause-number.result next.0 c.in-Makes.open next.1
-        (other_among f steps s.kept.items s.watches s.trail c.args.head c.args.lit c.args.place c.requires.visiting next.0 c.in-Makes.open next.2.0) in
+    (other_among f steps s.kept.items s.watches s.trail c.args.head c.args.lit c.args.place c.requires.visiting next.0 c.in-Makes.open next.2.0) in
     let count = c.requires.visiting.running.variable_count in
     omega arith
 

@@ -1,5 +1,4 @@
-use Rattle.std.proofs.Common.{◌≡◌, ◌<◌, ◌≤◌, ◌+◌, suc, take, length, subst, sym, arith}
-use Rattle.wb_solve.specs.declared.propagation.Visit.TheVariants as visit
+use Rattle.std.proofs.Common.{◌≡◌, ◌≤◌, ◌+◌, suc, take, length, subst, arith}
 use Rattle.wb_solve.specs.Search.{clauses_in}
 use Rattle.wb_solve.specs.Trails.{made}
 use Rattle.wb_solve.specs.Watching.{AreGuarded, watchers}
@@ -43,7 +42,8 @@ returns-clause-passed c =
     let s = c.loop-place.self in
     let l = c.minus-lit.result in
     let whole : length (watchers s.watches l) ≤ c.loop-place.place = omega (arith, c.loop-place-test.false, c.count.ensures) in
-    let e : suc c.args.head ≡ c.args.head + 1 = omega arith in
-    (c.loop-place.invariant.visiting.running,
-    subst (λ k. AreGuarded s.kept.items (made (take k s.trail.entries)) (made s.trail.entries)) e
-    (visiting_ends f steps s.kept.items s.watches s.trail c.args.head l c.loop-place.place c.loop-place.invariant.visiting whole))
+    let e : suc c.args.head ≡ c.args.head + 1 = omega arith in (
+      c.loop-place.invariant.visiting.running,
+      subst (λ k. AreGuarded s.kept.items (made (take k s.trail.entries)) (made s.trail.entries)) e
+          (visiting_ends f steps s.kept.items s.watches s.trail c.args.head l c.loop-place.place c.loop-place.invariant.visiting whole),
+    )

@@ -14,6 +14,6 @@ pub returns-clause-few : goal.returns-clause-few
 returns-clause-few c =
     let e : Entry = record { lit = c.args.lit; reason = c.args.reason } in
     let is = trail_push c.self.inside.entries.items c.self.inside.values.items e c.self.invariant
-        (rw (← c.self.view_is) at c.requires.below) (rw (← c.self.view_is) at c.requires.still_open) in
+    (rw (← c.self.view_is) at c.requires.below) (rw (← c.self.view_is) at c.requires.still_open) in
     let count = is.count in
     rw c.in_ok-push.ensures.items (omega (arith, count))

@@ -1,4 +1,4 @@
-use Rattle.std.proofs.Common.{◌≡◌, ◌+◌, ◌∷◌, ◌++◌, [], length, map, length-append, sym, ◌∙◌, ap, subst, arith}
+use Rattle.std.proofs.Common.{◌+◌, ◌∷◌, [], length, map, length-append, ◌∙◌, ap}
 use Rattle.wb_solve.specs.Watching.{list_at}
 use Rattle.wb_solve.proofs.Tables.{rows_empty}
 use Rattle.wb_solve.proofs.watches.Table.new.Goals as goal

@@ -1,4 +1,4 @@
-use Rattle.std.proofs.Common.{◌≡◌, ◌<◌, length, ◌∷◌, ◌++◌, [], sym, ◌∙◌, ap}
+use Rattle.std.proofs.Common.{◌∷◌, ◌++◌, [], ◌∙◌, ap}
 use Rattle.wb_solve.specs.Watching.{list_at}
 use Rattle.wb_solve.proofs.Tables.{row_same, row_other, row_is, rows_within}
 use Rattle.wb_solve.proofs.watches.Table.push.Goals as goal

@@ -1,4 +1,4 @@
-use Rattle.std.proofs.Common.{◌≡◌, ◌<◌, length, sym, ◌∙◌, ap, subst}
+use Rattle.std.proofs.Common.{◌<◌, length, sym, ◌∙◌, ap, subst}
 use Rattle.wb_solve.specs.Watching.{list_at, LosesAt}
 use Rattle.wb_solve.proofs.Tables.{row_same, row_other, row_is, rows_within, place_within, loses}
 use Rattle.wb_solve.proofs.watches.Table.remove.Goals as goal
