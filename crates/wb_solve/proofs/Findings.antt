@@ -8,22 +8,15 @@ use Rattle.wb_gate.specs.declared.gates.Gate.{Gate}
 use Rattle.wb_gate.specs.declared.gates.Gate.TheVariants.{And, Xor, Mux, Maj}
 use Rattle.wb_gate.specs.declared.gates.Goal.{Goal}
 use Rattle.wb_gate.specs.declared.gates.Goal.TheVariants as goal
-use Rattle.wb_gate.specs.Circuit.{Circuit, variables, variable}
+use Rattle.wb_gate.specs.Circuit.{Circuit, variable}
 use Rattle.wb_gate.specs.Clauses.{gate_clauses, clauses_from, goal_clauses, clauses_of, names_only}
 use Rattle.wb_derive.specs.declared.steps.Step.{Step}
 use Rattle.wb_derive.specs.Partial.{Partial, IsFalsified, IsUnit, Occurs}
-use Rattle.wb_solve.specs.declared.standing.Standing.{Standing}
-use Rattle.wb_solve.specs.declared.standing.Standing.TheVariants.{Falsified, Other}
-use Rattle.wb_solve.specs.declared.standing.Standing.TheVariants.{Unit as UnitOf}
-use Rattle.wb_solve.specs.declared.scans.Found.{Found}
-use Rattle.wb_solve.specs.declared.scans.Found.TheVariants as found
-use Rattle.wb_solve.specs.Descent.{clause_of}
-use Rattle.wb_solve.specs.Search.{clauses_in, AreSteps}
-use Rattle.wb_solve.specs.Course.{AllBelow, IsStanding, StandsAt, UnitWithin, NoneFalsifiedBelow, NoneUnitBelow, IsFound, noted, known_to}
+use Rattle.wb_solve.specs.Search.{clauses_in}
+use Rattle.wb_solve.specs.Course.{Standing, Falsified, UnitOf, Other, Found, FalsifiedFound, UnitFound, NoneFound, IsStanding, StandsAt, UnitWithin, NoneFalsifiedBelow, NoneUnitBelow, IsFound, noted, known_to}
 use Rattle.wb_solve.proofs.Lists.{get_left, get_after}
-use Rattle.wb_solve.proofs.Few.{step_fresh}
 
-occurs_below : (n : ℕ) (clause : List Lit) (l : Lit) → names_only n clause ≡ true → Occurs l clause → l.var < n
+pub occurs_below : (n : ℕ) (clause : List Lit) (l : Lit) → names_only n clause ≡ true → Occurs l clause → l.var < n
 occurs_below n [] l named o = absurd o
 occurs_below n (m ∷ ms) l named o = by (nat_lt m.var n) refl named o (occurs_below n ms l)
   where
@@ -36,22 +29,6 @@ pub unit_within : (n : ℕ) (p : Partial) (clause : List Lit) (s : Standing) →
 unit_within n p clause Falsified named is = tt
 unit_within n p clause (UnitOf l) named is = occurs_below n clause l named is.there
 unit_within n p clause Other named is = tt
-
-assumed_below : (m n : ℕ) (assumed : List ℕ) (l : Lit) → m ≤ n → AllBelow m assumed → Occurs l (clause_of assumed) → l.var < n
-assumed_below m n [] l h all o = absurd o
-assumed_below m n (x ∷ xs) l h all (inl here) =
-    let at : x ≡ l.var = ap (λ (k : Lit). k.var) here in
-    let less : x < m = all.0 in
-    omega arith
-assumed_below m n (x ∷ xs) l h all (inr there) = assumed_below m n xs l h all.1 there
-
--- a step names only inputs
-pub step_unit_within : (c : Circuit) (steps : List Step) (place : ℕ) (clause : List Lit) (p : Partial) (s : Standing) → AreSteps c (clauses_in steps) → slice_get (clauses_in steps) place ≡ Some clause → IsStanding p clause s → UnitWithin (variables c) s
-step_unit_within c steps place clause p Falsified are at is = tt
-step_unit_within c steps place clause p (UnitOf l) are at is =
-    let fresh = step_fresh c _ clause (are.descents place clause at) in
-    assumed_below c.inputs (variables c) fresh.assumed l (omega arith) fresh.below (subst (Occurs l) fresh.is is.there)
-step_unit_within c steps place clause p Other are at is = tt
 
 pub clause_in : (steps : List Step) (place : ℕ) (step : Step) → slice_get steps place ≡ Some step → slice_get (clauses_in steps) place ≡ Some step.clause
 clause_in [] place step e = absurd (cc)
@@ -98,7 +75,7 @@ clauses_few c =
 split : (j k : ℕ) → j < k + 1 → (j < k) ⊎ (j ≡ k)
 split j k h = grind arith
 
-same_clause : (known : List (List Lit)) (number : ℕ) (one two : List Lit) → slice_get known number ≡ Some one → slice_get known number ≡ Some two → one ≡ two
+pub same_clause : (known : List (List Lit)) (number : ℕ) (one two : List Lit) → slice_get known number ≡ Some one → slice_get known number ≡ Some two → one ≡ two
 same_clause known number one two e f = cc
 
 more_falsified : (known : List (List Lit)) (p : Partial) (k : ℕ) (clause : List Lit) → NoneFalsifiedBelow known p k → slice_get known k ≡ Some clause → (IsFalsified p clause → ⊥) → NoneFalsifiedBelow known p (k + 1)
@@ -126,17 +103,17 @@ falsified_open p (x ∷ xs) l all (inr there) still = falsified_open p xs l all.
 unit_not_falsified : (p : Partial) (clause : List Lit) (l : Lit) → IsUnit p clause l → IsFalsified p clause → ⊥
 unit_not_falsified p clause l unit all = falsified_open p clause l all unit.there unit.still_open
 
-pub found_none : (known : List (List Lit)) (p : Partial) (n : ℕ) → IsFound known p n 0 found.Nothing
+pub found_none : (known : List (List Lit)) (p : Partial) (n : ℕ) → IsFound known p n 0 NoneFound
 found_none known p n = (λ number clause h e f. omega arith, λ number l h unit. omega arith)
 
 pub found_more : (known : List (List Lit)) (p : Partial) (n k : ℕ) (f : Found) (s : Standing) → IsFound known p n k f → StandsAt known p k s → UnitWithin n s → (s ≡ Falsified → ⊥) → IsFound known p n (k + 1) (noted f k s)
-found_more known p n k (found.Falsified number) s is at within filled = is
+found_more known p n k (FalsifiedFound number) s is at within filled = is
 found_more known p n k f Falsified is at within filled = absurd (filled refl)
-found_more known p n k (found.Unit number l) (UnitOf m) is at within filled =
+found_more known p n k (UnitFound number l) (UnitOf m) is at within filled =
     (more_falsified known p k at.0 is.0 at.1 (unit_not_falsified p at.0 m at.2), is.1, is.2, is.3)
-found_more known p n k (found.Unit number l) Other is at within filled =
+found_more known p n k (UnitFound number l) Other is at within filled =
     (more_falsified known p k at.0 is.0 at.1 at.2.no_falsified, is.1, is.2, is.3)
-found_more known p n k found.Nothing (UnitOf m) is at within filled =
+found_more known p n k NoneFound (UnitOf m) is at within filled =
     (more_falsified known p k at.0 is.0 at.1 (unit_not_falsified p at.0 m at.2), (at.0, at.1, at.2), is.1, within)
-found_more known p n k found.Nothing Other is at within filled =
+found_more known p n k NoneFound Other is at within filled =
     (more_falsified known p k at.0 is.0 at.1 at.2.no_falsified, more_unit known p k at.0 is.1 at.1 at.2.no_unit)

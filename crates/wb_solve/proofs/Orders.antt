@@ -63,7 +63,7 @@ module _ (inputs : ℕ) (clauses : List (List Lit)) (end other : Ended) where
   give_alike q assumed stable all e p r to_q to_r (gives s a also valued f) =
       e ∙ ap (λ (t : Partial). Values t) (same_values clauses p q s to_q stable to_r also) ∙ sym f
 
-  alike : (q : Partial) (assumed : List ℕ) → DescendsInSomeOrder inputs clauses end q assumed → Alike q assumed
+  pub alike : (q : Partial) (assumed : List ℕ) → DescendsInSomeOrder inputs clauses end q assumed → Alike q assumed
   alike q assumed (conflicts s a found e) = conflict_alike s a found e
   alike q assumed (propagates s a l none unit rest) =
       λ p r to_q to_r descent. alike (assume s l) a rest p r (one_more clauses p s l to_q unit) to_r descent

@@ -25,7 +25,7 @@ values_one p q e = cc
 differ : (clause : List Lit) (p : Partial) → Conflict clause ≡ Values p → ⊥
 differ clause p e = cc
 
-get_within : (steps : List (List Lit)) (k : ℕ) → k < length steps → (clause : List Lit) × (slice_get steps k ≡ Some clause)
+pub get_within : (steps : List (List Lit)) (k : ℕ) → k < length steps → (clause : List Lit) × (slice_get steps k ≡ Some clause)
 get_within [] k h = absurd (omega arith)
 get_within (x ∷ xs) zero h = (x, refl)
 get_within (x ∷ xs) (suc k) h = get_within xs k (omega arith)

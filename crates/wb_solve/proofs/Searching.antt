@@ -22,18 +22,18 @@ use Rattle.wb_solve.proofs.Few.{step_fresh, new_step}
 use Rattle.wb_solve.proofs.Few.{few as few_steps}
 use Rattle.wb_solve.proofs.Few.{filled as filled_steps}
 
-take_all : {X : Type 0} (xs ys : List X) → take (length xs) (xs ++ ys) ≡ xs
+pub take_all : {X : Type 0} (xs ys : List X) → take (length xs) (xs ++ ys) ≡ xs
 take_all [] [] = refl
 take_all [] (y ∷ ys) = refl
 take_all (x ∷ xs) ys = ap (λ zs. x ∷ zs) (take_all xs ys)
 
-take_front : {X : Type 0} (xs ys : List X) (k : ℕ) → k ≤ length xs → take k (xs ++ ys) ≡ take k xs
+pub take_front : {X : Type 0} (xs ys : List X) (k : ℕ) → k ≤ length xs → take k (xs ++ ys) ≡ take k xs
 take_front xs ys zero h = refl
 take_front [] ys (suc k) h = absurd (omega arith)
 take_front (x ∷ xs) ys (suc k) h = ap (λ zs. x ∷ zs) (take_front xs ys k (omega arith))
 
 -- an element of a list with one more at its end
-last_or_before : {X : Type 0} (xs : List X) (x : X) (k : ℕ) (y : X) → slice_get (xs ++ (x ∷ [])) k ≡ Some y → (slice_get xs k ≡ Some y) ⊎ ((k ≡ length xs) × (x ≡ y))
+pub last_or_before : {X : Type 0} (xs : List X) (x : X) (k : ℕ) (y : X) → slice_get (xs ++ (x ∷ [])) k ≡ Some y → (slice_get xs k ≡ Some y) ⊎ ((k ≡ length xs) × (x ≡ y))
 last_or_before [] x zero y e = inr (refl, cc)
 last_or_before [] x (suc k) y e = absurd (cc)
 last_or_before (z ∷ xs) x zero y e = inl e
@@ -43,7 +43,7 @@ last_or_before (z ∷ xs) x (suc k) y e = by (last_or_before xs x k y e)
     by (inl before) = inl before
     by (inr here) = let at = here.0 in inr (omega arith, here.1)
 
-get_last : {X : Type 0} (xs : List X) (x : X) → slice_get (xs ++ (x ∷ [])) (length xs) ≡ Some x
+pub get_last : {X : Type 0} (xs : List X) (x : X) → slice_get (xs ++ (x ∷ [])) (length xs) ≡ Some x
 get_last [] x = refl
 get_last (y ∷ xs) x = get_last xs x
 
@@ -75,7 +75,7 @@ filled_more steps clause filled new place other e empty = by (last_or_before ste
     by (inl before) = filled place other before empty
     by (inr here) = new (here.1 ∙ empty)
 
-names_below : (m n : ℕ) (assumed : List ℕ) → m ≤ n → AllBelow m assumed → names_only n (clause_of assumed) ≡ true
+pub names_below : (m n : ℕ) (assumed : List ℕ) → m ≤ n → AllBelow m assumed → names_only n (clause_of assumed) ≡ true
 names_below m n [] h all = refl
 names_below m n (x ∷ xs) h all =
     let less : x < m = all.0 in
@@ -128,7 +128,7 @@ searching_first c = record {
   lawful = λ place h. absurd (omega arith);
 }
 
-clauses_more : (steps : List Step) (step : Step) → clauses_in (steps ++ (step ∷ [])) ≡ clauses_in steps ++ (step.clause ∷ [])
+pub clauses_more : (steps : List Step) (step : Step) → clauses_in (steps ++ (step ∷ [])) ≡ clauses_in steps ++ (step.clause ∷ [])
 clauses_more steps step = map-append (λ (s : Step). s.clause) steps (step ∷ [])
 
 pub searching_more : (c : Circuit) (steps : List Step) (step : Step) → IsSearching c steps → IsConflict c (known_to c steps) step → (step.clause ≡ [] → ⊥) → IsSearching c (steps ++ (step ∷ []))

@@ -3,9 +3,7 @@ use Rattle.std.proofs.Common.{◌≡◌, ℕ, ◌⊎◌, inl, inr, Bool, true, f
 use Rattle.std.proofs.lemmas.Bool.{eqb-true, false≢true}
 use Rattle.wb_gate.specs.declared.gates.Lit.{Lit}
 use Rattle.wb_derive.specs.Partial.{Partial, IsFalse, IsOpen, IsFalsified, Occurs, AreFalseBut}
-use Rattle.wb_solve.specs.declared.standing.Standing.TheVariants.{Falsified, Other}
-use Rattle.wb_solve.specs.declared.standing.Standing.TheVariants.{Unit as UnitOf}
-use Rattle.wb_solve.specs.Course.{is_false_value, is_false, is_none, is_open, same_bool, is_same, all_false, all_false_but, unit_with, standing, IsStanding}
+use Rattle.wb_solve.specs.Course.{Falsified, UnitOf, Other, is_false_value, is_false, is_none, is_open, same_bool, is_same, all_false, all_false_but, unit_with, standing, IsStanding}
 use Rattle.wb_solve.proofs.Units.{open_is}
 
 false_is : (o : Option Bool) (neg : Bool) → is_false_value o neg ≡ true → o ≡ Some neg

@@ -1,19 +1,13 @@
 -- What the search computes and keeps. No public clause cites this.
-use Rattle.std.specs.Prelude.{◌≡◌, ℕ, ◌+◌, ◌<◌, Bool, true, false, not, ◌&&◌, ◌||◌, ◌==◌, if◌then◌else◌, ◌⊎◌, List, [], ◌∷◌, ◌++◌, length, map, find, Option, Some, None}
+use Rattle.std.specs.Prelude.{◌≡◌, ℕ, ◌+◌, ◌<◌, Bool, true, false, not, ◌&&◌, ◌||◌, ◌==◌, if◌then◌else◌, ◌⊎◌, List, [], ◌∷◌, ◌++◌, find, Option, Some, None}
 use Rattle.std.specs.List.{slice_get, list_all}
 use Rattle.wb_gate.specs.declared.gates.Lit.{Lit}
-use Rattle.wb_gate.specs.Circuit.{Circuit, variables}
+use Rattle.wb_gate.specs.Circuit.{Circuit}
 use Rattle.wb_gate.specs.Clauses.{clauses_of}
 use Rattle.wb_derive.specs.declared.steps.Step.{Step}
 use Rattle.wb_derive.specs.Clause.{rises}
-use Rattle.wb_derive.specs.Partial.{Partial, nothing, refute, IsFalsified, IsUnit}
-use Rattle.wb_derive.specs.Lawful.{Refutes}
-use Rattle.wb_solve.specs.declared.standing.Standing.{Standing}
-use Rattle.wb_solve.specs.declared.standing.Standing.TheVariants.{Falsified, Other}
-use Rattle.wb_solve.specs.declared.standing.Standing.TheVariants.{Unit as UnitOf}
-use Rattle.wb_solve.specs.declared.scans.Found.{Found}
-use Rattle.wb_solve.specs.declared.scans.Found.TheVariants as found
-use Rattle.wb_solve.specs.Descent.{Ended, IsUnitAt, Descends, IsDescent, clause_of}
+use Rattle.wb_derive.specs.Partial.{Partial, IsFalsified, IsUnit}
+use Rattle.wb_solve.specs.Descent.{IsUnitAt, clause_of}
 use Rattle.wb_solve.specs.Search.{clauses_in}
 use Rattle.wb_solve.specs.Laws.{IsWithin}
 
@@ -24,6 +18,19 @@ value_in (Some value) = value
 
 abbrev pub partial_of : List (Option Bool) → Partial
 partial_of values = λ x. value_in (slice_get values x)
+
+-- what a clause is under some values: falsified; unit, with this open literal; or neither
+pub data Standing : Type 0 where
+  Falsified : Standing
+  UnitOf : Lit → Standing
+  Other : Standing
+
+-- what clauses say under some values: that of this number is falsified; none is falsified, and that of this number is
+-- the first unit one, with this open literal; or none is falsified, and none is unit
+pub data Found : Type 0 where
+  FalsifiedFound : ℕ → Found
+  UnitFound : ℕ → Lit → Found
+  NoneFound : Found
 
 -- tests of literals
 abbrev pub is_false_value : Option Bool → Bool → Bool
@@ -91,17 +98,17 @@ NoneUnitBelow known p count = (number : ℕ) (l : Lit) → number < count → Is
 
 -- what is found in the first so many clauses
 abbrev pub IsFound : List (List Lit) → Partial → ℕ → ℕ → Found → Type 0
-IsFound known p n count (found.Falsified number) = (clause : List Lit) × (slice_get known number ≡ Some clause) × IsFalsified p clause
-IsFound known p n count (found.Unit number l) = NoneFalsifiedBelow known p count × IsUnitAt known p number l × NoneUnitBelow known p number × (l.var < n)
-IsFound known p n count found.Nothing = NoneFalsifiedBelow known p count × NoneUnitBelow known p count
+IsFound known p n count (FalsifiedFound number) = (clause : List Lit) × (slice_get known number ≡ Some clause) × IsFalsified p clause
+IsFound known p n count (UnitFound number l) = NoneFalsifiedBelow known p count × IsUnitAt known p number l × NoneUnitBelow known p number × (l.var < n)
+IsFound known p n count NoneFound = NoneFalsifiedBelow known p count × NoneUnitBelow known p count
 
 -- what is found with one clause more
 abbrev pub noted : Found → ℕ → Standing → Found
-noted found.Nothing number (UnitOf l) = found.Unit number l
-noted found.Nothing number Falsified = found.Nothing
-noted found.Nothing number Other = found.Nothing
-noted (found.Falsified first) number s = found.Falsified first
-noted (found.Unit first l) number s = found.Unit first l
+noted NoneFound number (UnitOf l) = UnitFound number l
+noted NoneFound number Falsified = NoneFound
+noted NoneFound number Other = NoneFound
+noted (FalsifiedFound first) number s = FalsifiedFound first
+noted (UnitFound first l) number s = UnitFound first l
 
 -- how many variables have no value
 abbrev pub opens : List (Option Bool) → ℕ
@@ -118,11 +125,6 @@ abbrev pub AllBelow : ℕ → List ℕ → Type 0
 AllBelow n [] = Unit {0}
 AllBelow n (x ∷ xs) = (x < n) × AllBelow n xs
 
--- each of the variables has no value
-abbrev pub AllOpen : Partial → List ℕ → Type 0
-AllOpen p [] = Unit {0}
-AllOpen p (x ∷ xs) = (p x ≡ None) × AllOpen p xs
-
 -- no clause lies within this one
 abbrev pub NoneWithin : List (List Lit) → List Lit → Type 0
 NoneWithin clauses clause = (number : ℕ) (known : List Lit) → slice_get clauses number ≡ Some known → IsWithin known clause → ⊥
@@ -134,13 +136,3 @@ pub record IsPending (inputs : ℕ) (clauses : List (List Lit)) (p : Partial) (a
   pub under : (x : ℕ) → p x ≡ None → AllBelow x assumed
   pub rises : rises (clause_of assumed) ≡ true
   pub fresh : (assumed ≡ []) ⊎ NoneWithin clauses (clause_of assumed)
-
--- A descent so far: its rest makes it whole, and the hints lead from all assumptions at once, and any more, to what
--- has a value by now.
-pub record IsUnderway (c : Circuit) (known : List (List Lit)) (values : List (Option Bool)) (assumed : List Lit) (hints : List ℕ) : Type 0 where
-  pub names : List ℕ
-  pub is : assumed ≡ clause_of names
-  pub covers : length values ≡ variables c
-  pub rest : (end : Ended) → Descends c.inputs known end (partial_of values) names → IsDescent c.inputs known end
-  pub pending : IsPending c.inputs known (partial_of values) names
-  pub refutes : (more : List ℕ) (others : List ℕ) → AllOpen (partial_of values) more → Refutes known others (refute (clause_of more) (partial_of values)) → Refutes known (hints ++ others) (refute (clause_of (names ++ more)) nothing)

@@ -2,5 +2,11 @@ pub mod Descent
 pub mod Search
 pub mod Laws
 pub mod Course
+pub mod Trails
+pub mod Watching
+pub mod Propagating
+pub mod Loading
+pub mod Starting
+pub mod Halting
 pub mod Turns
 pub mod Answers

@@ -1,5 +1,5 @@
--- What a turn, a descent and a search so far come to. No public clause cites this.
-use Rattle.std.specs.Prelude.{◌≡◌, ℕ, ◌<◌, Bool, false, List, map, length, Option, Some, None}
+-- What a descent and a search so far come to. No public clause cites this.
+use Rattle.std.specs.Prelude.{◌≡◌, ℕ, Bool, false, List, map, length, Option, Some, None}
 use Rattle.std.specs.List.{slice_get}
 use Rattle.wb_gate.specs.declared.gates.Lit.{Lit}
 use Rattle.wb_gate.specs.Circuit.{Circuit, variables}
@@ -7,14 +7,9 @@ use Rattle.wb_derive.specs.declared.steps.Step.{Step}
 use Rattle.wb_derive.specs.Partial.{Partial, nothing, refute, IsFalsified}
 use Rattle.wb_derive.specs.Lawful.{Refutes}
 use Rattle.wb_derive.specs.Verdict.{AreLawful}
-use Rattle.wb_solve.specs.declared.descents.Descent.{Descent}
-use Rattle.wb_solve.specs.declared.descents.Turn.{Turn}
-use Rattle.wb_solve.specs.declared.descents.Turn.TheVariants as turn
-use Rattle.wb_solve.specs.declared.descents.DescentEnd.{DescentEnd}
-use Rattle.wb_solve.specs.declared.descents.DescentEnd.TheVariants as end
 use Rattle.wb_solve.specs.Descent.{IsStable, AreValued, IsFirstOpen, Conflict, Values, IsDescent}
 use Rattle.wb_solve.specs.Search.{clauses_in, AreSteps, NoneEmpty}
-use Rattle.wb_solve.specs.Course.{partial_of, opens, IsUnderway}
+use Rattle.wb_solve.specs.Course.{partial_of}
 
 abbrev pub value_or_false : Option Bool → Bool
 value_or_false None = false
@@ -28,14 +23,6 @@ FirstOpen n p (Some x) = IsFirstOpen n p x
 abbrev pub FalsifiedAt : List (List Lit) → Partial → ℕ → Type 0
 FalsifiedAt known p number = (clause : List Lit) × (slice_get known number ≡ Some clause) × IsFalsified p clause
 
-abbrev pub IsUnderwayAt : Circuit → List (List Lit) → Descent → Type 0
-IsUnderwayAt c known d = IsUnderway c known d.values.items d.assumed.items d.hints.items
-
-abbrev pub IsTurn : Circuit → List (List Lit) → Descent → Descent → Turn → Type 0
-IsTurn c known old new turn.GoesOn = IsUnderwayAt c known new × (opens new.values.items < opens old.values.items)
-IsTurn c known old new (turn.Conflicts number) = IsUnderwayAt c known new × FalsifiedAt known (partial_of new.values.items) number
-IsTurn c known old new turn.Rests = IsUnderwayAt c known new × IsStable known (partial_of new.values.items) × AreValued c.inputs (partial_of new.values.items)
-
 -- a step with the clause of the negated assumptions, and hints that refute it
 abbrev pub IsConflict : Circuit → List (List Lit) → Step → Type 0
 IsConflict c known step = IsDescent c.inputs known (Conflict step.clause) × Refutes known step.hints (refute step.clause nothing)
@@ -45,10 +32,6 @@ abbrev pub AreEndValues : Circuit → List (List Lit) → List Bool → Type 0
 AreEndValues c known list =
     (values : List (Option Bool)) × (list ≡ map value_or_false values) × (length values ≡ variables c)
     × IsStable known (partial_of values) × AreValued c.inputs (partial_of values) × IsDescent c.inputs known (Values (partial_of values))
-
-abbrev pub IsEnd : Circuit → List (List Lit) → DescentEnd → Type 0
-IsEnd c known (end.Conflict step) = IsConflict c known step
-IsEnd c known (end.Values list) = AreEndValues c known list
 
 -- so many steps of a search that goes on
 pub record IsSearching (c : Circuit) (steps : List Step) : Type 0 where

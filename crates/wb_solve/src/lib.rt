@@ -2,20 +2,33 @@
 //!
 //! The search makes descents, one after the other. A descent makes the literals of unit clauses true, and assumes
 //! the first input without a value false, until a clause is falsified or all inputs have values. The clause of the
-//! negated assumptions is then the next step. `standing` says what a clause is under some values, `scans` finds the
-//! first unit clause, `descents` has the descent, `search` the search and its answer, `values` the values that it
+//! negated assumptions is then the next step. The next descent makes the same assumptions but the last, so it goes on
+//! from there.
+//!
+//! `trail` has the literals that were made true, `kept` the clauses without repeated literals, `watches` which of them
+//! watch a literal, and `loading` loads them. `asserting` makes the clauses of one literal true, and `propagation` the
+//! literals of unit clauses. Steps aren't watched: a later step makes each of them true, or its own literal does.
+//! `decisions` assumes and goes back, `marks` and `hints` find the clauses on which a conflict rests, and `answers`
+//! makes steps and values of the end of a descent. `search` has the search and its answer, `values` the values that it
 //! gives, and `laws` what is true of every search. `specs/Descent.antt` has the descent as a relation,
 //! `specs/Search.antt` the search, and `specs/Answers.antt` what an answer says.
 #![tactic(auto)]
 
-mod descents;
+mod answers;
+mod asserting;
+mod decisions;
+mod hints;
+mod kept;
 mod laws;
-mod scans;
+mod loading;
+mod marks;
+mod propagation;
 mod search;
-mod standing;
 #[cfg(test)]
 mod tests;
+mod trail;
 mod values;
+mod watches;
 
 pub use laws::{
     order_is_free, outcomes_are_one, propagation_is_confluent, stable_values_satisfy, steps_are_few,

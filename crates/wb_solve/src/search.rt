@@ -1,9 +1,12 @@
 //! The search.
 ghost use Rattle.std.specs.Prelude.{◌≡◌, ◌==◌, IfOk, length};
 ghost use Rattle.wb_solve.specs.Answers.{IsAnswer};
+ghost use Rattle.wb_solve.specs.Search.{clauses_in};
 ghost use Rattle.wb_solve.specs.Turns.{IsSearching};
+ghost use Rattle.wb_solve.specs.Halting.{IsHalted};
 
-use crate::descents::{DescentEnd, descend};
+use crate::answers::begin;
+use crate::decisions::{Descents, Halt};
 use crate::laws::stable_values_satisfy;
 use crate::values::Values;
 use std::alloc::Global;
@@ -29,30 +32,37 @@ fn is_empty(step: &Step) -> bool
     step.clause.lits().is_empty()
 }
 
-/// The descent after the last step that may be kept.
-fn last_descent(
+/// The answer after the last step that may be kept, where the next descent ended so.
+fn last_answer(
     alloc: Global,
     formula: &Formula,
     limit: u64,
     derivation: Derivation,
+    descents: Descents,
+    halt: Halt,
 ) -> Result<Answer, OutOfMemory>
     requires searching { IsSearching formula.now derivation }
     requires count { length derivation ≡ limit }
+    requires halted { IsHalted formula.now (clauses_in derivation) descents halt }
     ensures { IfOk result (λ answer. IsAnswer formula.now limit answer) }
 {
     stable_values_satisfy();
     let _gates = formula.gates();
-    match descend(alloc, formula, derivation.steps())? {
-        DescentEnd::Values(values) => Ok(Answer::Sat(values)),
-        DescentEnd::Conflict(step) => {
-            if !is_empty(&step) {
-                return Ok(Answer::Spent(derivation));
-            }
-            let mut whole = derivation;
-            whole.push(step)?;
-            Ok(Answer::Unsat(whole))
+    let mut descents = descents;
+    let number = match halt {
+        Halt::Values => {
+            let values = descents.end_values(alloc, formula, derivation.steps())?;
+            return Ok(Answer::Sat(values));
         }
+        Halt::Conflict(number) => number,
+    };
+    let step = descents.conflict_step(alloc, formula, derivation.steps(), number)?;
+    if !is_empty(&step) {
+        return Ok(Answer::Spent(derivation));
     }
+    let mut whole = derivation;
+    whole.push(step)?;
+    Ok(Answer::Unsat(whole))
 }
 
 /// Searches for values that satisfy the formula, or for a derivation of the empty clause, with at most so many steps.
@@ -62,17 +72,22 @@ pub fn solve(alloc: Global, formula: &Formula, limit: u64) -> Result<Answer, Out
     stable_values_satisfy();
     let _gates = formula.gates();
     let mut derivation = Derivation::new(alloc);
+    let (mut descents, mut halt) = begin(alloc, formula, derivation.steps())?;
     for _count in 0..limit {
-        match descend(alloc, formula, derivation.steps())? {
-            DescentEnd::Values(values) => return Ok(Answer::Sat(values)),
-            DescentEnd::Conflict(step) => {
-                let is_last = is_empty(&step);
-                derivation.push(step)?;
-                if is_last {
-                    return Ok(Answer::Unsat(derivation));
-                }
+        let number = match halt {
+            Halt::Values => {
+                let values = descents.end_values(alloc, formula, derivation.steps())?;
+                return Ok(Answer::Sat(values));
             }
+            Halt::Conflict(number) => number,
+        };
+        let step = descents.conflict_step(alloc, formula, derivation.steps(), number)?;
+        let is_last = is_empty(&step);
+        derivation.push(step)?;
+        if is_last {
+            return Ok(Answer::Unsat(derivation));
         }
+        halt = descents.resume(formula, derivation.steps())?;
     }
-    last_descent(alloc, formula, limit, derivation)
+    last_answer(alloc, formula, limit, derivation, descents, halt)
 }
