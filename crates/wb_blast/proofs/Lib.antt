@@ -7,3 +7,6 @@ pub mod Doubled
 pub mod Multiples
 pub mod Sums
 pub mod Walk
+pub mod Appended
+pub mod Owners
+pub mod Meets

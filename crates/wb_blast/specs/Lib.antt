@@ -1,6 +1,7 @@
 pub mod Blasting
 pub mod Doubles
 pub mod Entries
+pub mod Meeting
 pub mod Number
 pub mod Operations
 pub mod Places

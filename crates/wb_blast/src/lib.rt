@@ -12,6 +12,7 @@ mod bitwise;
 mod children;
 mod entries;
 mod inputs;
+mod meeting;
 mod number;
 mod places;
 mod products;
