@@ -10,3 +10,4 @@ pub mod Walk
 pub mod Appended
 pub mod Owners
 pub mod Meets
+pub mod Looks

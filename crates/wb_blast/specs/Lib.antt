@@ -5,5 +5,6 @@ pub mod Meeting
 pub mod Number
 pub mod Operations
 pub mod Places
+pub mod Rows
 pub mod Walk
 pub mod Words

@@ -12,10 +12,12 @@ mod bitwise;
 mod children;
 mod entries;
 mod inputs;
+mod lookups;
 mod meeting;
 mod number;
 mod places;
 mod products;
+mod rows;
 mod shifts;
 #[cfg(test)]
 mod tests;
