@@ -11,3 +11,4 @@ pub mod Appended
 pub mod Owners
 pub mod Meets
 pub mod Looks
+pub mod Parts

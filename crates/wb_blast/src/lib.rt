@@ -10,6 +10,7 @@
 
 mod bitwise;
 mod children;
+mod circuits;
 mod entries;
 mod inputs;
 mod lookups;

@@ -80,7 +80,7 @@ returns-in_ok-word-in_default-clause-means t c =
     c.in_ok-high-in_default.high c.in_ok-low-in_default.low c.in_ok-word-in_default.word (table_words c.args.graph.now.tables c.args.table) c.args.bits (c.args.bits - 1) c.args.first
     (c.args.first + 1 * 2 ^ (c.args.bits - 1) % 65536) 16 (16 * (2 ^ (c.args.bits - 1) - 1)) (omega (arith, few, some)) halved (omega (arith, power, positive, within))
     c.in_ok-low-in_default.ensures.extends c.in_ok-word-in_default.ensures.extends c.in_ok-high-in_default.ensures.means c.in_ok-low-in_default.ensures.means
-    (subst (λ (e : Entry). IsNumber c.combine_words.new.formula c.in_ok-word-in_default.word (λ v. if entry_value v e then number v c.in_ok-high-in_default.high else number v c.in_ok-low-in_default.low)) (sym c.in_default.chosen-is) c.in_ok-word-in_default.ensures.means)
+    c.in_ok-word-in_default.ensures.means
 
 pub returns-in_ok-word-in_default-clause-extends : goal.returns-in_ok-word-in_default-clause-extends
 returns-in_ok-word-in_default-clause-extends t c =
