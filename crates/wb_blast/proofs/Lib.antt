@@ -12,3 +12,4 @@ pub mod Owners
 pub mod Meets
 pub mod Looks
 pub mod Parts
+pub mod Builds

@@ -351,6 +351,7 @@ meeting_all g bits met stack graph empty is =
         total = is.summed;
       };
       numbered = is.numbered;
+      few = places_few g bits met stack graph is;
       wanted = record {
         once = is.once;
         under = λ x q e. let o = is.owned x q e in place_under g bits o.0 o.1 o.4 q o.3 (is.sound o.0 (inl o.2)) o.5;

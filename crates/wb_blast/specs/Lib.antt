@@ -1,4 +1,5 @@
 pub mod Blasting
+pub mod Building
 pub mod Doubles
 pub mod Entries
 pub mod Meeting

@@ -1,23 +1,19 @@
 -- The circuits of the nodes that are done. No public clause cites this.
-use Rattle.std.specs.Prelude.{◌≡◌, ◌==◌, ℕ, ◌-◌, ◌<◌, ◌≤◌, Bool, List, [], Some, length, slice_get, slice_index, slice_index_or}
-use Rattle.std.specs.List.{sum_by}
+use Rattle.std.specs.Prelude.{◌≡◌, ◌==◌, ℕ, ◌-◌, ◌<◌, Bool, List, [], Some, length, slice_get, slice_index, slice_index_or}
 use Rattle.wb_gate.specs.Circuit.{Circuit, Assignment, variables, Obeys}
+use Rattle.wb_term.specs.declared.nodes.BitId.{BitId}
 use Rattle.wb_term.specs.declared.nodes.WordNode.{WordNode}
 use Rattle.wb_term.specs.declared.nodes.WordNode.TheVariants.{Const, Byte, Cell, Not, And, Or, Xor, Sum, Diff, Ite, Shl, Shr, High, Low, Look}
 use Rattle.wb_term.specs.declared.nodes.BitNode.{BitNode}
 use Rattle.wb_term.specs.declared.nodes.BitNode.TheVariants.{Known, Pick, NotB, AndB, OrB, XorB, IteB, Same, Carry, Borrow}
-use Rattle.wb_term.specs.declared.nodes.Node.{Node}
-use Rattle.wb_term.specs.declared.nodes.Node.TheVariants.{Word, Bit}
 use Rattle.wb_term.specs.Inputs.{Assignment as Inputs, IsAssignment}
-use Rattle.wb_term.specs.Nodes.{children, IsAmong}
 use Rattle.wb_term.specs.Terms.{Terms}
 use Rattle.wb_term.specs.Values.{value}
 use Rattle.wb_blast.specs.declared.entries.Entry.{Entry}
 use Rattle.wb_blast.specs.declared.places.Place.{Place}
 use Rattle.wb_blast.specs.declared.rows.Rows.{Rows}
 use Rattle.wb_blast.specs.Entries.{entry_value, EntryBelow}
-use Rattle.wb_blast.specs.Meeting.{node_places, IsMet, StandsAt}
-use Rattle.wb_blast.specs.Number.{AreDistinct, weight_at}
+use Rattle.wb_blast.specs.Meeting.{IsMet}
 use Rattle.wb_blast.specs.Places.{GivesInputs}
 use Rattle.wb_blast.specs.Words.{number, entry_at, AreBelow}
 
@@ -82,30 +78,13 @@ HasBitParts g c r (Same x y) = HasWordRow g c r x.number × HasWordRow g c r y.n
 HasBitParts g c r (Carry x y b) = HasWordRow g c r x.number × HasWordRow g c r y.number × HasBitRow g c r b.number
 HasBitParts g c r (Borrow x y b) = HasWordRow g c r x.number × HasWordRow g c r y.number × HasBitRow g c r b.number
 
--- the node of a number is done
-abbrev pub HasRow : Terms → Circuit → Rows → ℕ → Node → Type 0
-HasRow g c r k (Word n) = HasWordRow g c r k
-HasRow g c r k (Bit n) = HasBitRow g c r k
+-- each bit of a list has a row
+pub record HasBitRows (r : Rows) (bits : List BitId) : Type 0 where
+  pub covered : (k : ℕ) (bit : BitId) → slice_get bits k ≡ Some bit → bit.number < length r.slots
+  pub done : (k : ℕ) (bit : BitId) → slice_get bits k ≡ Some bit → IsMet r.slots bit.number
+  pub within : (k : ℕ) (bit : BitId) → slice_get bits k ≡ Some bit → slice_index r.slots bit.number - 1 < length r.bits.items
 
--- which nodes are to be done: with each its children, all together of at most this weight, and the inputs' places stand
-pub record IsReady (g : Terms) (limit : ℕ) (r : Rows) : Type 0 where
-  pub covers : length r.slots ≡ length g.nodes
-  pub closed : (k : ℕ) (n : Node) → IsMet r.slots k → slice_get g.nodes k ≡ Some n → (c : ℕ) → IsAmong c (children n) → IsMet r.slots c
-  pub numbered : (k : ℕ) (n : Node) → IsMet r.slots k → slice_get g.nodes k ≡ Some n → StandsAt r.places.items (slice_index r.slots k - 1) (node_places n)
-  pub few : length r.places.items ≤ 8192
-  pub ks : List ℕ
-  pub all : (j : ℕ) → IsMet r.slots j → IsAmong j ks
-  pub light : sum_by (weight_at g) ks ≤ limit
-
--- the nodes below a number are done
-pub record Building (g : Terms) (ready : Rows) (c : Circuit) (r : Rows) (at : ℕ) : Type 0 where
-  pub places : r.places ≡ ready.places
-  pub covers : length r.slots ≡ length g.nodes
-  pub few_words : length r.words.items ≤ at
-  pub few_bits : length r.bits.items ≤ at
-  pub done : (k : ℕ) (n : Node) → k < at → IsMet ready.slots k → slice_get g.nodes k ≡ Some n → HasRow g c r k n
-  pub rest : (k : ℕ) → at ≤ k → slice_index r.slots k ≡ slice_index ready.slots k
-  pub ds : List ℕ
-  pub distinct : AreDistinct ds
-  pub each : (j : ℕ) → IsAmong j ds → (j < at) × IsMet ready.slots j
-  pub gates : length c.gates ≤ sum_by (weight_at g) ds
+-- the entries are those of the bits' rows
+pub record AreBitRows (r : Rows) (bits : List BitId) (entries : List Entry) : Type 0 where
+  pub counted : length entries ≡ length bits
+  pub same : (k : ℕ) (bit : BitId) → slice_get bits k ≡ Some bit → entry_at entries k ≡ bit_row r bit.number

@@ -9,6 +9,8 @@
 #![tactic(auto)]
 
 mod bitwise;
+mod blasting;
+mod building;
 mod children;
 mod circuits;
 mod entries;
@@ -25,6 +27,7 @@ mod tests;
 mod words;
 
 pub use bitwise::{Operation, combine_words, constant, constant_word, inverted};
+pub use blasting::{Blasted, Many, blast, blast_many};
 pub use entries::{Entry, and, majority, mux, negation, or, xor};
 pub use inputs::input_word;
 pub use number::count_gates;
