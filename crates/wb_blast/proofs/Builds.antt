@@ -49,7 +49,7 @@ word_at (Some (Word n)) h = (n, refl)
 word_at (Some (Bit n)) h = absurd (cc)
 word_at None h = absurd (cc)
 
-bit_at : (o : Option Node) → holds_bit o ≡ true → (n : BitNode) × (o ≡ Some (Bit n))
+pub bit_at : (o : Option Node) → holds_bit o ≡ true → (n : BitNode) × (o ≡ Some (Bit n))
 bit_at (Some (Bit n)) h = (n, refl)
 bit_at (Some (Word n)) h = absurd (cc)
 bit_at None h = absurd (cc)

@@ -13,3 +13,5 @@ pub mod Meets
 pub mod Looks
 pub mod Parts
 pub mod Builds
+pub mod Given
+pub mod Finals

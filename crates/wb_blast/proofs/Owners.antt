@@ -71,7 +71,7 @@ place_under g bits k (Word n) j q at under e = absurd (get_none j q e)
 place_under g bits k (Bit n) j q at under e = absurd (get_none j q e)
 
 -- each place has a number of its own
-abbrev IsInRange : Place → Type 0
+abbrev pub IsInRange : Place → Type 0
 IsInRange (Byte place b) = (place < 16) × (b < 8)
 IsInRange (Cell place b) = (place < 256) × (b < 16)
 
