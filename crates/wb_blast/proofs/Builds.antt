@@ -1,12 +1,10 @@
 -- The rows of the nodes, made one after the other.
-use Rattle.std.proofs.Common.{◌≡◌, ◌≢◌, ◌==◌, ℕ, zero, suc, ◌+◌, ◌-◌, ◌*◌, ◌<◌, ◌≤◌, ◌⊎◌, Bool, true, List, [], ◌∷◌, ◌++◌, length, take, set, Some, None, slice_get, slice_index, get_or, refl, sym, ◌∙◌, ap, subst, inl, inr, arith, get_or-set_other, get_or-set_same, Vec, Global, Option}
+use Rattle.std.proofs.Common.{◌≡◌, ◌≢◌, ◌==◌, ℕ, zero, suc, ◌+◌, ◌-◌, ◌<◌, ◌≤◌, Bool, true, List, [], ◌∷◌, ◌++◌, length, take, Some, None, slice_get, slice_index, get_or, refl, sym, ◌∙◌, ap, subst, inl, inr, arith, get_or-set_other, get_or-set_same, Vec, Global, Option}
 use Rattle.std.proofs.Math.ListN.{length-set, get_or-append}
 use Rattle.std.proofs.Math.Seq.{get_or-append_seam}
 use Rattle.std.proofs.lemmas.Bool.{cases_eq}
 use Rattle.std.proofs.lemmas.List.Sums.{sum_by-cons}
-use Rattle.std.proofs.lemmas.Option.{slice_get_cases}
-use Rattle.std.specs.List.{sum_by}
-use Rattle.wb_gate.specs.Circuit.{Circuit, Assignment, variables, Obeys}
+use Rattle.wb_gate.specs.Circuit.{Circuit}
 use Rattle.wb_gate.specs.Growth.{Extends}
 use Rattle.wb_term.specs.declared.nodes.WordId.{WordId}
 use Rattle.wb_term.specs.declared.nodes.BitId.{BitId}
@@ -16,7 +14,7 @@ use Rattle.wb_term.specs.declared.nodes.BitNode.{BitNode}
 use Rattle.wb_term.specs.declared.nodes.BitNode.TheVariants.{Known, Pick, NotB, AndB, OrB, XorB, IteB, Same, Carry, Borrow}
 use Rattle.wb_term.specs.declared.nodes.Node.{Node}
 use Rattle.wb_term.specs.declared.nodes.Node.TheVariants.{Word, Bit}
-use Rattle.wb_term.specs.Inputs.{Assignment as Inputs, IsAssignment}
+use Rattle.wb_term.specs.Inputs.{Assignment as Inputs}
 use Rattle.wb_term.specs.Nodes.{children, word_children, bit_children, weight, IsAmong}
 use Rattle.wb_term.specs.Terms.{Terms, IsGraph, HasWord, HasBit, IsPlaced, IsWordPlaced, IsBitPlaced, first_of, holds_word, holds_bit}
 use Rattle.wb_term.specs.Values.{value}
@@ -25,11 +23,10 @@ use Rattle.wb_blast.specs.declared.entries.Entry.TheVariants.{T}
 use Rattle.wb_blast.specs.declared.places.Place.{Place}
 use Rattle.wb_blast.specs.declared.rows.Rows.{Rows}
 use Rattle.wb_blast.specs.Building.{HasRow, HasParts, CanBuild, AddsRow, IsBuiltRow, Builds, IsReady, Building}
-use Rattle.wb_blast.specs.Entries.{entry_value, EntryBelow}
 use Rattle.wb_blast.specs.Meeting.{IsMet, StandsAt, node_places}
-use Rattle.wb_blast.specs.Number.{AreDistinct, weight_at, weight_in}
+use Rattle.wb_blast.specs.Number.{weight_at, weight_in}
 use Rattle.wb_blast.specs.Rows.{IsWordOf, IsBitOf, HasWordRow, HasBitRow, HasWordParts, HasBitParts, word_row, bit_row}
-use Rattle.wb_blast.specs.Words.{entry_at, AreBelow}
+use Rattle.wb_blast.specs.Words.{entry_at}
 use Rattle.wb_blast.proofs.Appended.{get_none}
 use Rattle.wb_blast.proofs.Lists.{sum_of_some}
 use Rattle.wb_blast.proofs.Sums.{below_kept}
@@ -126,8 +123,8 @@ can_build g ready r limit c at graph is building n m at_k =
           let heavy : weight_at g at ≡ weight n = ap (λ o. weight_in o) at_k in
           let step = sum_by-cons (weight_at g) at building.ds in
           let some = sum_of_some (weight_at g) (at ∷ building.ds) is.ks
-              ((λ among. let low = (building.each at among).0 in absurd (omega (arith, low))), building.distinct)
-              (λ j among. elim among [ inl e ↦ is.all j (subst (λ i. IsMet ready.slots i) (sym e) was) | inr rest ↦ is.all j (building.each j rest).1 ]) in
+          ((λ among. let low = (building.each at among).0 in absurd (omega (arith, low))), building.distinct)
+          (λ j among. elim among [ inl e ↦ is.all j (subst (λ i. IsMet ready.slots i) (sym e) was) | inr rest ↦ is.all j (building.each j rest).1 ]) in
           omega (arith, gates, light, limit_is, heavy, step, some));
     }
 
@@ -164,7 +161,7 @@ row_kept g before after room old new at k (Word n) ext keeps ne is =
       within = (let within = kept.0 in omega (arith, within, slot));
       is = subst (λ (ps : Vec Place Global). IsWordOf after ps.items (word_row new k) (λ i. value i g k)) (sym keeps.places)
           (subst (λ (w : List Entry). IsWordOf after old.places.items w (λ i. value i g k)) (sym same)
-              (word_kept before after room old.places.items (word_row old k) (λ i. value i g k) ext is.is));
+          (word_kept before after room old.places.items (word_row old k) (λ i. value i g k) ext is.is));
     }
 row_kept g before after room old new at k (Bit n) ext keeps ne is =
     let slot = keeps.slots k ne in
@@ -176,7 +173,7 @@ row_kept g before after room old new at k (Bit n) ext keeps ne is =
       within = (let within = kept.0 in omega (arith, within, slot));
       is = subst (λ (ps : Vec Place Global). IsBitOf after ps.items (bit_row new k) (λ i. value i g k == 1)) (sym keeps.places)
           (subst (λ (e : Entry). IsBitOf after old.places.items e (λ i. value i g k == 1)) (sym same)
-              (bit_kept before after room old.places.items (bit_row old k) (λ i. value i g k == 1) ext is.is));
+          (bit_kept before after room old.places.items (bit_row old k) (λ i. value i g k == 1) ext is.is));
     }
 
 length_push : {X : Type 0} (xs : List X) (x : X) → length (xs ++ x ∷ []) ≡ length xs + 1
@@ -281,10 +278,10 @@ building_new g ready old new limit before after at n is at_k m built =
           (let most = built.extends.most in let gates = is.gates in let step = sum_by-cons (weight_at g) at is.ds in
           let heavy : weight_at g at ≡ weight n = ap (λ o. weight_in o) at_k in omega (arith, most, gates, step, heavy));
     } where
-  met_within : (slots : List ℕ) (k : ℕ) → IsMet slots k → k < length slots
-  met_within [] k m = absurd (omega (arith, m))
-  met_within (s ∷ slots) zero m = omega arith
-  met_within (s ∷ slots) (suc k) m = let rest = met_within slots k m in omega (arith, rest)
+      met_within : (slots : List ℕ) (k : ℕ) → IsMet slots k → k < length slots
+      met_within [] k m = absurd (omega (arith, m))
+      met_within (s ∷ slots) zero m = omega arith
+      met_within (s ∷ slots) (suc k) m = let rest = met_within slots k m in omega (arith, rest)
 
 building_idle : (g : Terms) (ready r : Rows) (limit : ℕ) (c : Circuit) (at : ℕ) → slice_index r.slots at ≡ 0 → Building g ready limit c r at → Building g ready limit c r (at + 1)
 building_idle g ready r limit c at idle is =

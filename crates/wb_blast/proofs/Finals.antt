@@ -1,16 +1,15 @@
 -- What the formula of some bits says.
-use Rattle.std.proofs.Common.{◌≡◌, ◌↔◌, ◌==◌, ℕ, zero, suc, ◌+◌, ◌<◌, ◌≤◌, Bool, true, false, ◌&&◌, ◌||◌, List, [], ◌∷◌, ◌++◌, length, Some, slice_get, slice_index, get_or, refl, sym, ◌∙◌, ap, subst, inl, inr, arith, Vec, Global}
+use Rattle.std.proofs.Common.{◌≡◌, ℕ, zero, suc, ◌<◌, ◌≤◌, Bool, true, false, ◌&&◌, List, [], ◌∷◌, length, Some, slice_get, slice_index, get_or, refl, sym, ◌∙◌, ap, subst, arith, Vec, Global}
 use Rattle.std.proofs.lemmas.List.Folds.{list_all-append}
 use Rattle.std.proofs.lemmas.Option.{slice_get_within}
-use Rattle.std.specs.List.{sum_by, list_all}
-use Rattle.wb_gate.specs.Circuit.{Circuit, Assignment, variables, IsCircuit, Obeys, lit_value}
+use Rattle.wb_gate.specs.Circuit.{Circuit, Assignment, variables, IsCircuit, Obeys}
 use Rattle.wb_gate.specs.Clauses.{Satisfies, SatisfiesAll, satisfies_clause, gates_clauses, goal_clauses}
 use Rattle.wb_gate.specs.Laws.{ClausesSayTheGates, InputsDecide}
 use Rattle.wb_term.specs.declared.nodes.BitId.{BitId}
 use Rattle.wb_term.specs.declared.nodes.Node.TheVariants.{Bit}
 use Rattle.wb_term.specs.Inputs.{Assignment as Inputs, IsAssignment}
-use Rattle.wb_term.specs.Terms.{Terms, IsGraph, HasBit, first_of}
-use Rattle.wb_term.specs.Values.{value, bit_value}
+use Rattle.wb_term.specs.Terms.{Terms, IsGraph, HasBit}
+use Rattle.wb_term.specs.Values.{bit_value}
 use Rattle.wb_blast.specs.declared.entries.Entry.{Entry}
 use Rattle.wb_blast.specs.declared.entries.Entry.TheVariants.{T, F}
 use Rattle.wb_blast.specs.declared.entries.Entry.TheVariants as entry
@@ -18,13 +17,13 @@ use Rattle.wb_blast.specs.declared.meeting.Met.{Met}
 use Rattle.wb_blast.specs.declared.places.Place.{Place}
 use Rattle.wb_blast.specs.declared.places.Place.TheVariants.{Byte, Cell}
 use Rattle.wb_blast.specs.declared.rows.Rows.{Rows}
-use Rattle.wb_blast.specs.Blasting.{IsGateValue, IsWithin, IsBlasted, AreEntries, AreBlasted, goal_of}
+use Rattle.wb_blast.specs.Blasting.{IsBlasted, AreBlasted, goal_of}
 use Rattle.wb_blast.specs.Building.{Building}
 use Rattle.wb_blast.specs.Entries.{entry_value, EntryBelow}
 use Rattle.wb_blast.specs.Meeting.{HasMet}
 use Rattle.wb_blast.specs.Number.{weight_at}
-use Rattle.wb_blast.specs.Places.{place_value, GivesInputs, HasAssignment, IsPlaceUnder, ArePlaces}
-use Rattle.wb_blast.specs.Rows.{HasBitRow, HasBitRows, AreBitRows, IsBitOf, bit_row}
+use Rattle.wb_blast.specs.Places.{place_value, GivesInputs, IsPlaceUnder, ArePlaces}
+use Rattle.wb_blast.specs.Rows.{HasBitRow, HasBitRows, AreBitRows}
 use Rattle.wb_blast.specs.Words.{entry_at}
 use Rattle.wb_blast.proofs.Appended.{get_none}
 use Rattle.wb_blast.proofs.Builds.{bit_at}
@@ -68,7 +67,7 @@ all_done g bits met ready r limit c entries same same_places is within building 
         within = within;
         few =
             (let some = sum_of_some (weight_at g) building.ds is.number.ks building.distinct
-                (λ j among. is.number.nodes.all j (is.sound j (subst (λ (s : List ℕ). 0 < slice_index s j) same (building.each j among).1))) in
+            (λ j among. is.number.nodes.all j (is.sound j (subst (λ (s : List ℕ). 0 < slice_index s j) same (building.each j among).1))) in
             let gates = building.gates in let total = is.number.total in omega (arith, some, gates, total));
       };
     }
@@ -126,7 +125,7 @@ pub blasted_is : (g : Terms) (bit : BitId) (limit : ℕ) (c : Circuit) (places :
     IsCircuit (with_goal c e) → e ≡ entry_at entries 0 → AreBlasted g (bit ∷ []) limit c places entries → IsBlasted g bit limit (with_goal c e) places
 blasted_is g bit limit c places entries e say decide graph circuit same are =
     let means : (i : Inputs) (v : Assignment) → IsAssignment i → GivesInputs v places i → Obeys v (with_goal c e) → entry_value v e ≡ bit_value i g bit =
-        λ i v a gives o. ap (entry_value v) same ∙ are.meant.value i v a gives (obeys_before c e v o) 0 bit refl in
+    λ i v a gives o. ap (entry_value v) same ∙ are.meant.value i v a gives (obeys_before c e v o) 0 bit refl in
     record {
       assigns = λ i a. (
         λ has.

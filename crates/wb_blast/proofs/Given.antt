@@ -1,6 +1,6 @@
 -- The inputs that an assignment gives.
-use Rattle.std.proofs.Common.{◌≡◌, ◌≢◌, ◌==◌, ℕ, zero, suc, ◌+◌, ◌*◌, ◌^◌, ◌<◌, ◌≤◌, Bool, true, false, if◌then◌else◌, List, [], ◌∷◌, length, Some, slice_get, slice_index, get_or, refl, sym, ◌∙◌, ap, subst, inl, inr, arith}
-use Rattle.std.proofs.lemmas.Bool.{cases_eq, cases_lt, ne_eqb}
+use Rattle.std.proofs.Common.{◌≡◌, ◌≢◌, ◌==◌, ℕ, zero, suc, ◌+◌, ◌^◌, ◌<◌, Bool, true, false, if◌then◌else◌, List, [], ◌∷◌, length, Some, slice_get, slice_index, refl, sym, ◌∙◌, ap, subst, arith}
+use Rattle.std.proofs.lemmas.Bool.{ne_eqb}
 use Rattle.std.specs.Int.{bit_at}
 use Rattle.wb_gate.specs.Circuit.{Assignment}
 use Rattle.wb_term.specs.Inputs.{Assignment as Inputs, IsAssignment}
@@ -35,8 +35,8 @@ given_at v first (q ∷ ps) zero p range once e =
     ∙ ap v (omega arith)
 given_at v first (q ∷ ps) (suc x) p range once e =
     let other : code q ≢ code p = λ same.
-        let eq : q ≡ p = same_code q p (range 0 q refl) (range (suc x) p e) same in
-        let zero_is : 0 ≡ suc x = once 0 (suc x) p (ap Some eq) e in absurd (omega (arith, zero_is)) in
+    let eq : q ≡ p = same_code q p (range 0 q refl) (range (suc x) p e) same in
+    let zero_is : 0 ≡ suc x = once 0 (suc x) p (ap Some eq) e in absurd (omega (arith, zero_is)) in
     ap (λ b. if b then v first else given v (suc first) ps (code p)) (ne_eqb (code q) (code p) other)
     ∙ given_at v (suc first) ps x p (λ k r f. range (suc k) r f) (λ j k r f g. let s = once (suc j) (suc k) r f g in omega (arith, s)) e
     ∙ ap v (omega arith)
@@ -97,7 +97,6 @@ table_small f (suc n) bound some small zero = small 0
 table_small f (suc n) bound some small (suc k) = table_small (λ k. f (suc k)) n bound some (λ k. small (suc k)) k
 
 byte_given : Assignment → List Place → ℕ → ℕ
-
 byte_given v ps place = word_of (λ b. given v 0 ps (code (Byte place b))) 8
 
 cell_given : Assignment → List Place → ℕ → ℕ

@@ -1,12 +1,11 @@
 -- The place that is looked up, bit by bit from the highest.
-use Rattle.std.proofs.Common.{◌≡◌, ◌==◌, ℕ, suc, ◌+◌, ◌-◌, ◌*◌, ◌/◌, ◌%◌, ◌^◌, ◌<◌, ◌≤◌, Bool, true, false, if◌then◌else◌, List, length, slice_index, refl, sym, ◌∙◌, ap, arith}
+use Rattle.std.proofs.Common.{◌≡◌, ℕ, ◌+◌, ◌-◌, ◌*◌, ◌%◌, ◌^◌, ◌<◌, Bool, true, false, if◌then◌else◌, List, length, slice_index, sym, ◌∙◌, ap, arith}
 use Rattle.std.proofs.Math.Nat.{add_comm}
 use Rattle.std.proofs.lemmas.Nat.{mod-pow-add, pow_pos}
-use Rattle.wb_gate.specs.Circuit.{Circuit, Assignment, variables, Obeys}
+use Rattle.wb_gate.specs.Circuit.{Circuit, Assignment}
 use Rattle.wb_gate.specs.Growth.{Extends}
 use Rattle.wb_term.specs.Numbers.{bit}
 use Rattle.wb_blast.specs.declared.entries.Entry.{Entry}
-use Rattle.wb_blast.specs.declared.entries.Entry.TheVariants.{T, F}
 use Rattle.wb_blast.specs.Entries.{entry_value}
 use Rattle.wb_blast.specs.Words.{number, entry_at, IsNumber}
 use Rattle.wb_blast.proofs.Bits.{number_bit}
@@ -52,7 +51,7 @@ looked_known c x w words bits rest first middle from b within halved is known st
   there = number_is.there;
   value = λ v o. number_is.value v o ∙ ap (slice_index words)
       (place b first middle from (2 ^ rest) (number v x % 2 ^ rest) (number v x % 2 ^ bits) start is
-          (low_bits v x bits rest within halved.next ∙ ap (λ b. bit b * 2 ^ rest + number v x % 2 ^ rest) (known v)));
+      (low_bits v x bits rest within halved.next ∙ ap (λ b. bit b * 2 ^ rest + number v x % 2 ^ rest) (known v)));
 } where
   place : (b : Bool) (first middle from P n m : ℕ) → from ≡ (if b then middle else first) → middle ≡ first + P → m ≡ bit b * P + n → from + n ≡ first + m
   place true first middle from P n m e f g = omega (arith, e, f, g)

@@ -1,16 +1,15 @@
 -- Rows of nodes that need no gate.
-use Rattle.std.proofs.Common.{◌≡◌, ◌==◌, ℕ, ◌+◌, ◌-◌, ◌*◌, ◌/◌, ◌%◌, ◌^◌, ◌<◌, ◌≤◌, Bool, true, false, not, List, length, Some, slice_get, slice_index, refl, sym, ◌∙◌, ap, subst, arith, zero, suc}
+use Rattle.std.proofs.Common.{◌≡◌, ◌==◌, ℕ, ◌+◌, ◌-◌, ◌/◌, ◌%◌, ◌^◌, ◌<◌, ◌≤◌, Bool, true, false, not, List, length, Some, slice_get, slice_index, refl, sym, ◌∙◌, ap, arith, zero, suc}
 use Rattle.std.proofs.lemmas.Option.{slice_get_within}
 use Rattle.std.specs.Int.{bit_at}
-use Rattle.wb_gate.specs.Circuit.{Circuit, Assignment, variables, Obeys}
-use Rattle.wb_term.specs.Inputs.{Assignment as Inputs, IsAssignment}
-use Rattle.wb_term.specs.Numbers.{bit, cut}
+use Rattle.wb_gate.specs.Circuit.{Circuit, Assignment, variables}
+use Rattle.wb_term.specs.Inputs.{Assignment as Inputs}
+use Rattle.wb_term.specs.Numbers.{bit}
 use Rattle.wb_blast.specs.declared.entries.Entry.{Entry}
 use Rattle.wb_blast.specs.declared.places.Place.{Place}
 use Rattle.wb_blast.specs.declared.places.Place.TheVariants.{Byte, Cell}
 use Rattle.wb_blast.specs.Entries.{entry_value, EntryBelow}
 use Rattle.wb_blast.specs.Meeting.{places_down, StandsAt}
-use Rattle.wb_blast.specs.Places.{GivesInputs}
 use Rattle.wb_blast.specs.Rows.{IsWordOf, IsBitOf}
 use Rattle.wb_blast.specs.Words.{number, entry_at, AreBelow}
 use Rattle.wb_blast.proofs.Bits.{number_bit}

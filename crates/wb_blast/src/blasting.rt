@@ -126,12 +126,7 @@ fn goal_of(entry: Entry) -> Goal
 ///
 /// Its input variables are numbered in the order in which a walk from the bit meets the inputs, which goes into the
 /// condition of a choice before what it chooses.
-pub fn blast(
-    alloc: Global,
-    graph: &Graph,
-    bit: BitId,
-    limit: u64,
-) -> Result<Blasted, GateFault>
+pub fn blast(alloc: Global, graph: &Graph, bit: BitId, limit: u64) -> Result<Blasted, GateFault>
     requires there { HasBit graph.now bit }
     requires few { limit ≤ 2 ^ 31 }
     ensures blasted { IfOk result (λ made. IsBlasted graph.now bit limit made.formula made.places.items) }

@@ -91,9 +91,7 @@ pub fn bit_circuit(
         BitNode::XorB(c, d) => xor(formula, rows.bit(c), rows.bit(d)),
         BitNode::IteB(c, d, e) => mux(formula, rows.bit(c), rows.bit(d), rows.bit(e)),
         BitNode::Same(x, y) => same_words(formula, &rows.word(x), &rows.word(y)),
-        BitNode::Carry(x, y, c) => {
-            carry_of(formula, &rows.word(x), &rows.word(y), rows.bit(c))
-        }
+        BitNode::Carry(x, y, c) => { carry_of(formula, &rows.word(x), &rows.word(y), rows.bit(c)) }
         BitNode::Borrow(x, y, c) => {
             borrow_of(formula, &rows.word(x), &rows.word(y), rows.bit(c))
         }

@@ -4,7 +4,6 @@ use Rattle.wb_gate.specs.declared.gates.Goal.{Goal}
 use Rattle.wb_blast.specs.declared.entries.Entry.{Entry}
 use Rattle.wb_blast.specs.Blasting.{IsBlasted, goal_of}
 use Rattle.wb_blast.specs.Entries.{EntryBelow}
-use Rattle.wb_blast.specs.Words.{entry_at}
 use Rattle.wb_blast.proofs.Finals.{blasted_is, first_entry}
 use Rattle.wb_blast.proofs.blasting.blast.Goals as goal
 
@@ -25,4 +24,4 @@ returns-clause-blasted c =
     let is : c.set_goal.new.self ≡ whole = c.set_goal.ensures.goal ∙ ap (λ (t : Goal). let made : Circuit = record many.formula { goal = t } in made) c.goal_of.ensures.goal in
     subst (λ (x : Circuit). IsBlasted c.args.graph.now c.args.bit c.args.limit x many.places.items) (sym is)
     (blasted_is c.args.graph.now c.args.bit c.args.limit many.formula many.places.items many.entries.items e c.clauses_say_the_gates.ensures c.inputs_decide.ensures
-        c.len-nodes.ensures.graph (subst (λ (x : Circuit). IsCircuit x) is c.set_goal.ensures.circuit) same are)
+    c.len-nodes.ensures.graph (subst (λ (x : Circuit). IsCircuit x) is c.set_goal.ensures.circuit) same are)

@@ -1,4 +1,4 @@
-use Rattle.std.proofs.Common.{sym, ap, ◌∙◌, subst, arith, List, ◌==◌, ◌/◌, ◌%◌, ◌^◌}
+use Rattle.std.proofs.Common.{sym, subst, arith, List, ◌==◌, ◌/◌, ◌%◌, ◌^◌}
 use Rattle.wb_term.specs.declared.nodes.BitNode.{BitNode}
 use Rattle.wb_term.specs.Terms.{IsBitPlaced}
 use Rattle.wb_term.specs.Values.{word_value, bit_value, bit_node_value, value}
@@ -23,9 +23,9 @@ returns-in-Pick-clause-means c =
     subst (λ (n : BitNode). IsBitOf c.args.formula.now c.args.rows.now.places.items (entry_at c.word.result c.from.result) (λ i. bit_node_value (word_value i c.args.graph.now) (bit_value i c.args.graph.now) n))
     (sym c.in-Pick.is)
     (subst (λ m. IsBitOf c.args.formula.now c.args.rows.now.places.items (entry_at c.word.result m) (λ i. value i c.args.graph.now c.in-Pick.x.number / 2 ^ c.in-Pick.place % 2 == 1))
-        (sym c.from.ensures)
-        (picked_bit c.args.formula.now c.args.rows.now.places.items c.word.result c.in-Pick.place (λ i. value i c.args.graph.now c.in-Pick.x.number) (omega (arith, small, full))
-            (subst (λ (w : List Entry). IsWordOf c.args.formula.now c.args.rows.now.places.items w (λ i. value i c.args.graph.now c.in-Pick.x.number)) (sym c.word.ensures) row.is)))
+    (sym c.from.ensures)
+    (picked_bit c.args.formula.now c.args.rows.now.places.items c.word.result c.in-Pick.place (λ i. value i c.args.graph.now c.in-Pick.x.number) (omega (arith, small, full))
+    (subst (λ (w : List Entry). IsWordOf c.args.formula.now c.args.rows.now.places.items w (λ i. value i c.args.graph.now c.in-Pick.x.number)) (sym c.word.ensures) row.is)))
 
 pub returns-in-NotB-clause-means : goal.returns-in-NotB-clause-means
 returns-in-NotB-clause-means c =
@@ -33,5 +33,5 @@ returns-in-NotB-clause-means c =
     subst (λ (n : BitNode). IsBitOf c.args.formula.now c.args.rows.now.places.items c.negation.result (λ i. bit_node_value (word_value i c.args.graph.now) (bit_value i c.args.graph.now) n))
     (sym c.in-NotB.is)
     (negated_bit c.args.formula.now c.args.rows.now.places.items c.bit.result c.negation.result (λ i. value i c.args.graph.now c.in-NotB.c.number == 1)
-        (subst (λ (e : Entry). IsBitOf c.args.formula.now c.args.rows.now.places.items e (λ i. value i c.args.graph.now c.in-NotB.c.number == 1)) (sym c.bit.ensures) row.is)
-        c.negation.ensures.there c.negation.ensures.value)
+    (subst (λ (e : Entry). IsBitOf c.args.formula.now c.args.rows.now.places.items e (λ i. value i c.args.graph.now c.in-NotB.c.number == 1)) (sym c.bit.ensures) row.is)
+    c.negation.ensures.there c.negation.ensures.value)

@@ -1,9 +1,8 @@
-use Rattle.std.proofs.Common.{◌≡◌, ◌+◌, ◌-◌, ◌*◌, ◌%◌, ◌^◌, true, false, if◌then◌else◌, refl, sym, ap, ◌∙◌, arith, subst, rules, length}
+use Rattle.std.proofs.Common.{◌+◌, ◌-◌, ◌*◌, ◌%◌, ◌^◌, true, false, refl, ap, ◌∙◌, arith, rules}
 use Rattle.wb_term.specs.Terms.{table_words}
-use Rattle.wb_blast.specs.declared.entries.Entry.{Entry}
 use Rattle.wb_blast.specs.Entries.{entry_value}
-use Rattle.wb_blast.specs.Words.{number, entry_at, IsNumber}
-use Rattle.wb_blast.proofs.Looks.{halved_bits, looked_none, looked_known, looked_chosen, looked_extends, looked_part}
+use Rattle.wb_blast.specs.Words.{number}
+use Rattle.wb_blast.proofs.Looks.{halved_bits, looked_none, looked_known, looked_chosen, looked_extends}
 use Rattle.wb_blast.proofs.lookups.+look.Goals as goal
 
 pub returns-then-bits-eq0-clause-means : goal.returns-then-bits-eq0-clause-means
@@ -17,8 +16,7 @@ pub look-requires : goal.look-requires
 look-requires t c =
     let some = c.if-bits-eq0.false in
     let halved = halved_bits c.args.bits (omega (arith, some)) in
-    let power = halved.power in let positive = halved.some in let within = c.requires.within in let few = c.requires.few in let room = c.requires.room in
-    (
+    let power = halved.power in let positive = halved.some in let within = c.requires.within in let few = c.requires.few in let room = c.requires.room in (
       search rules,
       (c.requires.kept, (omega (arith, few), (omega (arith, power, positive, within), (c.requires.there, omega (arith, power, positive, room))))),
     )
@@ -27,8 +25,7 @@ pub look-requires-in-F : goal.look-requires-in-F
 look-requires-in-F t c =
     let some = c.if-bits-eq0.false in
     let halved = halved_bits c.args.bits (omega (arith, some)) in
-    let power = halved.power in let positive = halved.some in let within = c.requires.within in let few = c.requires.few in let room = c.requires.room in
-    (
+    let power = halved.power in let positive = halved.some in let within = c.requires.within in let few = c.requires.few in let room = c.requires.room in (
       search rules,
       (c.requires.kept, (omega (arith, few), (omega (arith, power, positive, within), (c.requires.there, omega (arith, power, positive, room))))),
     )
@@ -37,8 +34,7 @@ pub look-requires-in_default : goal.look-requires-in_default
 look-requires-in_default t c =
     let some = c.if-bits-eq0.false in
     let halved = halved_bits c.args.bits (omega (arith, some)) in
-    let power = halved.power in let positive = halved.some in let within = c.requires.within in let few = c.requires.few in let room = c.requires.room in
-    (
+    let power = halved.power in let positive = halved.some in let within = c.requires.within in let few = c.requires.few in let room = c.requires.room in (
       search rules,
       (c.requires.kept, (omega (arith, few), (omega (arith, power, positive, within), (c.requires.there, omega (arith, power, positive, room))))),
     )
