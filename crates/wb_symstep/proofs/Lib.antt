@@ -1,1 +1,4 @@
 pub mod States
+pub mod BitLaws
+pub mod Meanings
+pub mod Parts

@@ -5,8 +5,12 @@
 #![tactic(auto)]
 
 mod laws;
+mod pointers;
+mod sources;
 mod state;
+mod status;
 mod stepped;
+mod words;
 
 pub use laws::states_stay;
 pub use state::SymState;

@@ -1,0 +1,14 @@
+-- Another form of what a word means.
+use Rattle.std.proofs.Common.{◌≡◌, ℕ, Result, Ok, Err, ◌∙◌}
+use Rattle.std.specs.Prelude.{IfOk}
+use Rattle.wb_word.specs.declared.memory.OutOfMemory.{OutOfMemory}
+use Rattle.wb_term.specs.declared.nodes.WordId.{WordId}
+use Rattle.wb_term.specs.Inputs.{Assignment, IsAssignment}
+use Rattle.wb_term.specs.Terms.{Terms}
+use Rattle.wb_term.specs.Values.{IsWord}
+
+pub means : (g : Terms) (r : Result WordId OutOfMemory) (f h : Assignment → ℕ)
+    → ((inputs : Assignment) → IsAssignment inputs → f inputs ≡ h inputs)
+    → IfOk r (λ id. IsWord g id f) → IfOk r (λ id. IsWord g id h)
+means g (Ok id) f h same is = record { there = is.there; value = λ inputs a. is.value inputs a ∙ same inputs a }
+means g (Err e) f h same is = is
