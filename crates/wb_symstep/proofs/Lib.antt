@@ -2,3 +2,5 @@ pub mod States
 pub mod BitLaws
 pub mod Meanings
 pub mod Parts
+pub mod Reading
+pub mod Growth

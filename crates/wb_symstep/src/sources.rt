@@ -1,6 +1,6 @@
 ghost use Rattle.std.specs.Prelude.{◌≡◌, ◌≢◌, ◌+◌, ◌≤◌, ◌^◌, [], ◌∷◌, if◌then◌else◌, IfOk, length, slice_index};
-ghost use Rattle.wb_term.specs.Terms.{HasBit, IsKept, table_words};
-ghost use Rattle.wb_term.specs.Values.{IsWord, bit_value};
+ghost use Rattle.wb_term.specs.Terms.{HasWord, HasBit, IsKept, table_words};
+ghost use Rattle.wb_term.specs.Values.{IsWord, word_value, bit_value};
 ghost use Rattle.wb_term.specs.Growth.{Grown, AddsAtMost};
 ghost use Rattle.wb_make.specs.Inputs.{BringsOnly};
 ghost use Rattle.wb_machine.specs.Next.{bus_of, far_address};
@@ -28,6 +28,28 @@ fn sign_limit(graph: &mut Graph, is_negative: BitId) -> Result<WordId, OutOfMemo
     let most = mk_const(graph, 0x7FFF)?;
     let least = mk_const(graph, 0x8000)?;
     mk_ite(graph, is_negative, most, least)
+}
+
+/// The most positive or the most negative number, by the sign of A.
+fn sign_source(graph: &mut Graph, state: &SymState) -> Result<WordId, OutOfMemory>
+    requires state { IsSymState graph.old state.now }
+    requires room { length graph.old.nodes + 3 ≤ 2 ^ 31 }
+    ensures part { IfOk result (λ id. IsPart graph.new state.now id (λ m. if m.regs.flags_a.s1 then 0x7FFF else 0x8000)) }
+    ensures grown { Grown graph.old graph.new }
+    ensures adds { AddsAtMost graph.old graph.new 3 16 }
+{
+    sign_limit(graph, state.flags_a.s1)
+}
+
+/// The status register.
+fn status_source(graph: &mut Graph, state: &SymState) -> Result<WordId, OutOfMemory>
+    requires state { IsSymState graph.old state.now }
+    requires room { length graph.old.nodes + 4 ≤ 2 ^ 31 }
+    ensures part { IfOk result (λ id. IsPart graph.new state.now id (λ m. m.regs.sr)) }
+    ensures grown { Grown graph.old graph.new }
+    ensures adds { AddsAtMost graph.old graph.new 4 32 }
+{
+    status_word(graph, state.rqm, state.drs, state.sr)
 }
 
 /// The data word that RP points to.
@@ -63,6 +85,19 @@ pub(crate) fn ram_word(
     pages_select(graph, alloc, &state.ram, state.dp)
 }
 
+/// DP with its bit 6 set.
+fn far_pointer(graph: &mut Graph, dp: WordId) -> Result<WordId, OutOfMemory>
+    requires dp { HasWord graph.old dp }
+    requires room { length graph.old.nodes + 2 ≤ 2 ^ 31 }
+    ensures value { IfOk result (λ id. IsWord graph.new id (λ inputs. far_address (word_value inputs graph.old dp))) }
+    ensures inputs { IfOk result (λ id. BringsOnly graph.old graph.new (dp.number ∷ []) id.number) }
+    ensures grown { Grown graph.old graph.new }
+    ensures adds { AddsAtMost graph.old graph.new 2 16 }
+{
+    let bit = mk_const(graph, 64)?;
+    mk_or(graph, dp, bit)
+}
+
 /// The RAM word that DP with its bit 6 set points to.
 pub(crate) fn far_word(
     graph: &mut Graph,
@@ -75,8 +110,7 @@ pub(crate) fn far_word(
     ensures grown { Grown graph.old graph.new }
     ensures adds { AddsAtMost graph.old graph.new 302 4096 }
 {
-    let bit = mk_const(graph, 64)?;
-    let far = mk_or(graph, state.dp, bit)?;
+    let far = far_pointer(graph, state.dp)?;
     pages_select(graph, alloc, &state.ram, far)
 }
 
@@ -106,10 +140,10 @@ pub(crate) fn register_source(
         Src::Dp => Ok(state.dp),
         Src::Rp => Ok(state.rp),
         Src::Ro => rom_word(graph, image, table, state),
-        Src::Sgn => sign_limit(graph, state.flags_a.s1),
+        Src::Sgn => sign_source(graph, state),
         Src::Dr => Ok(state.dr),
         Src::Drnf => Ok(state.dr),
-        Src::Sr => status_word(graph, state.rqm, state.drs, state.sr),
+        Src::Sr => status_source(graph, state),
         Src::Sim => mk_const(graph, 0),
         Src::Sil => mk_const(graph, 0),
         Src::K => Ok(state.k),
