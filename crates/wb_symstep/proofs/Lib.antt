@@ -4,3 +4,5 @@ pub mod Meanings
 pub mod Parts
 pub mod Reading
 pub mod Growth
+pub mod Working
+pub mod Storing

@@ -12,9 +12,12 @@ use Rattle.wb_alu.specs.declared.flags.Flags.{Flags}
 use Rattle.wb_fold.specs.declared.flags.SymFlags.{SymFlags}
 use Rattle.wb_fold.specs.Flags.{flags_value, flag_numbers, HasFlags}
 use Rattle.wb_fold.specs.Ram.{word_in, HasWords, WordsHaveOnly}
+use Rattle.wb_word.specs.declared.codes.Dst.{Dst}
+use Rattle.wb_word.specs.declared.codes.Dst.TheVariants as dst
 use Rattle.wb_machine.specs.State.{State, IsState}
+use Rattle.wb_machine.specs.Next.{merged}
 use Rattle.wb_symstep.specs.declared.state.SymState.{SymState}
-use Rattle.wb_symstep.specs.State.{status, StandsFor, IsSymState, StateHasOnly}
+use Rattle.wb_symstep.specs.State.{StandsFor, IsSymState, StateHasOnly}
 
 -- a case: inputs under which the state stands for a machine in its ranges
 pub record Stands (inputs : Assignment) (g : Terms) (s : SymState) (m : State) : Type 0 where
@@ -53,3 +56,8 @@ pub record IsAfter (g : Terms) (s next : SymState) (step : State → State) : Ty
   pub there : IsSymState g next
   pub value : (inputs : Assignment) (m : State) → Stands inputs g s m → StandsFor inputs g next (step m)
   pub only : (allowed : Node → Bool) → StateHasOnly g allowed s → StateHasOnly g allowed next
+
+-- the term of SR after a move of the bus; RQM and DRS don't count
+abbrev pub sr_written : Dst → ℕ → ℕ → ℕ
+sr_written dst.Sr bus sr = merged bus sr
+sr_written _ bus sr = sr

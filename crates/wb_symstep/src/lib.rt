@@ -4,13 +4,16 @@
 //! of a graph. Under inputs it stands for a machine (`specs/State.antt`).
 #![tactic(auto)]
 
+mod compute;
 mod laws;
+mod moves;
 mod pointers;
 mod sources;
 mod state;
 mod status;
 mod stepped;
 mod words;
+mod work;
 
 pub use laws::states_stay;
 pub use state::SymState;

@@ -1,0 +1,67 @@
+use wb_fold::{Pages, SymFlags};
+use wb_term::{BitId, WordId};
+
+/// The word on the bus, and the second operand of the ALU.
+#[derive(Clone, Copy)]
+pub(crate) struct Bus {
+    pub(crate) word: WordId,
+    pub(crate) operand: WordId,
+}
+
+/// The ALU's result, and the flags that it leaves.
+#[derive(Clone, Copy)]
+pub(crate) struct Work {
+    pub(crate) value: WordId,
+    pub(crate) flags: SymFlags,
+}
+
+/// An accumulator, its flags, and the carry of the other accumulator.
+#[derive(Clone, Copy)]
+pub(crate) struct Named {
+    pub(crate) q: WordId,
+    pub(crate) flags: SymFlags,
+    pub(crate) other_c: BitId,
+}
+
+/// The registers that a move narrows or merges.
+#[derive(Clone, Copy)]
+pub(crate) struct Narrow {
+    pub(crate) dp: WordId,
+    pub(crate) rp: WordId,
+    pub(crate) sr: WordId,
+}
+
+/// The registers that a move writes as the bus is.
+#[derive(Clone, Copy)]
+pub(crate) struct Plain {
+    pub(crate) a: WordId,
+    pub(crate) b: WordId,
+    pub(crate) tr: WordId,
+    pub(crate) trb: WordId,
+    pub(crate) dr: WordId,
+    pub(crate) so: WordId,
+}
+
+/// The inputs of the multiplier.
+#[derive(Clone, Copy)]
+pub(crate) struct Factors {
+    pub(crate) k: WordId,
+    pub(crate) l: WordId,
+}
+
+/// The inputs of the multiplier and the RAM.
+#[derive(Drop)]
+pub(crate) struct Memory {
+    pub(crate) k: WordId,
+    pub(crate) l: WordId,
+    pub(crate) ram: Pages,
+}
+
+/// Both accumulators with their flags.
+#[derive(Clone, Copy)]
+pub(crate) struct Accumulators {
+    pub(crate) a: WordId,
+    pub(crate) b: WordId,
+    pub(crate) flags_a: SymFlags,
+    pub(crate) flags_b: SymFlags,
+}
