@@ -39,3 +39,9 @@ unchanged g = record {
   bit_inputs = λ p c there only. only;
   under = λ j k within u. u;
 }
+
+pub adds_less : {f g : Terms} {m v k u : ℕ} → AddsAtMost f g m v → m ≤ k → v ≤ u → AddsAtMost f g k u
+adds_less a counts weights = record {
+  longer_by = omega (arith, a.longer_by, counts);
+  heavier_by = omega (arith, a.heavier_by, weights);
+}

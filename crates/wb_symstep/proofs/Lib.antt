@@ -6,3 +6,5 @@ pub mod Reading
 pub mod Growth
 pub mod Working
 pub mod Storing
+pub mod Moving
+pub mod Assembling

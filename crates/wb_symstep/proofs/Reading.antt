@@ -16,7 +16,7 @@ use Rattle.wb_machine.specs.State.{State, IsState}
 use Rattle.wb_machine.specs.Next.{far_address}
 use Rattle.wb_symstep.specs.declared.state.SymState.{SymState}
 use Rattle.wb_symstep.specs.State.{status, IsSymState}
-use Rattle.wb_symstep.specs.Parts.{Stands, IsPart}
+use Rattle.wb_symstep.specs.Parts.{Stands, IsPart, AreFlagsOf}
 use Rattle.wb_symstep.proofs.Parts.{stood, state_had_only}
 
 -- the registers of a state are parts
@@ -82,3 +82,27 @@ module _ (old new : Terms) (grown : Grown old new) (s : SymState) (is : IsSymSta
         ∙ ap (λ (f : Flags). if f.s1 then most else least) (stood old new grown s is i m st).state.flags_a;
     only = λ p o. brings p ((state_had_only old new grown p s o).flags_a.1.1.1.0, tt);
   }
+
+pub a_part : (g : Terms) (s : SymState) → IsSymState g s → IsPart g s s.a (λ m. m.regs.a)
+a_part g s is = record { there = is.a; value = λ i m st. st.state.a; only = λ p o. o.a }
+
+pub b_part : (g : Terms) (s : SymState) → IsSymState g s → IsPart g s s.b (λ m. m.regs.b)
+b_part g s is = record { there = is.b; value = λ i m st. st.state.b; only = λ p o. o.b }
+
+pub tr_part : (g : Terms) (s : SymState) → IsSymState g s → IsPart g s s.tr (λ m. m.regs.tr)
+tr_part g s is = record { there = is.tr; value = λ i m st. st.state.tr; only = λ p o. o.tr }
+
+pub trb_part : (g : Terms) (s : SymState) → IsSymState g s → IsPart g s s.trb (λ m. m.regs.trb)
+trb_part g s is = record { there = is.trb; value = λ i m st. st.state.trb; only = λ p o. o.trb }
+
+pub dr_part : (g : Terms) (s : SymState) → IsSymState g s → IsPart g s s.dr (λ m. m.regs.dr)
+dr_part g s is = record { there = is.dr; value = λ i m st. st.state.dr; only = λ p o. o.dr }
+
+pub so_part : (g : Terms) (s : SymState) → IsSymState g s → IsPart g s s.so (λ m. m.regs.so)
+so_part g s is = record { there = is.so; value = λ i m st. st.state.so; only = λ p o. o.so }
+
+pub flags_a_part : (g : Terms) (s : SymState) → IsSymState g s → AreFlagsOf g s s.flags_a (λ m. m.regs.flags_a)
+flags_a_part g s is = record { there = is.flags_a; value = λ i m st. st.state.flags_a; only = λ p o. o.flags_a }
+
+pub flags_b_part : (g : Terms) (s : SymState) → IsSymState g s → AreFlagsOf g s s.flags_b (λ m. m.regs.flags_b)
+flags_b_part g s is = record { there = is.flags_b; value = λ i m st. st.state.flags_b; only = λ p o. o.flags_b }

@@ -1,5 +1,5 @@
 -- A store into the RAM, as a part of the machine.
-use Rattle.std.proofs.Common.{◌≡◌, ℕ, ◌%◌, ◌<◌, ◌⊎◌, Bool, true, false, List, length, sym, ◌∙◌, ap, subst, inl, inr, slice_index, slice_set, if◌then◌else◌, ◌==◌}
+use Rattle.std.proofs.Common.{◌≡◌, ℕ, ◌%◌, ◌<◌, ◌⊎◌, Bool, true, false, List, length, sym, ◌∙◌, ap, subst, inl, inr, slice_index, slice_set, if◌then◌else◌, ◌==◌, ◌≢◌, refl}
 use Rattle.std.proofs.lemmas.Bool.{cases_eq, eq-eqb, ne_eqb}
 use Rattle.std.proofs.lemmas.List.{get_or-set_same, get_or-set_other}
 use Rattle.std.proofs.Math.Nat.{mod-eq_of_lt}
@@ -11,7 +11,10 @@ use Rattle.wb_term.specs.Values.{word_value}
 use Rattle.wb_term.specs.Under.{HasOnly}
 use Rattle.wb_term.specs.Growth.{Grown}
 use Rattle.wb_fold.specs.Ram.{word_in, AreWords, WordsHaveOnly, stored}
+use Rattle.wb_word.specs.declared.codes.Dst.{Dst}
+use Rattle.wb_word.specs.declared.codes.Dst.TheVariants as dst
 use Rattle.wb_machine.specs.State.{State}
+use Rattle.wb_machine.specs.Next.{moved_ram}
 use Rattle.wb_symstep.specs.declared.state.SymState.{SymState}
 use Rattle.wb_symstep.specs.State.{IsSymState}
 use Rattle.wb_symstep.specs.Parts.{Stands, IsPart, IsRamOf}
@@ -45,3 +48,19 @@ module _ (old new : Terms) (grown : Grown old new) (s : SymState) (is : IsSymSta
         ∙ entry m.ram m.regs.dp (p m) k (subst (λ (n : ℕ). m.regs.dp < n) (sym st.machine_in.ram_length) st.machine_in.regs_in.dp_in);
     only = λ allowed o. let had = state_had_only old new grown allowed s o in brings allowed had.ram had.dp (h.only allowed had);
   }
+
+-- a RAM that no move writes
+unmoved : (d : Dst) (bus dp : ℕ) (ram : List ℕ) → d ≢ dst.Mem → moved_ram d bus dp ram ≡ ram
+unmoved dst.Mem bus dp ram h = absurd (h refl)
+unmoved _ bus dp ram h = refl
+
+pub ram_part : (g : Terms) (s : SymState) → IsSymState g s → IsRamOf g s s.ram (λ m. m.ram)
+ram_part g s is = record { len = is.ram_length; there = is.ram; value = λ i m st. st.state.ram; only = λ allowed o. o.ram }
+
+pub left : (g : Terms) (s : SymState) (d : Dst) (p : State → ℕ) → IsSymState g s → d ≢ dst.Mem → IsRamOf g s s.ram (λ m. moved_ram d (p m) m.regs.dp m.ram)
+left g s d p is h = record {
+  len = is.ram_length;
+  there = is.ram;
+  value = λ i m st k within. st.state.ram k within ∙ sym (ap (λ (xs : List ℕ). slice_index xs k) (unmoved d (p m) m.regs.dp m.ram h));
+  only = λ allowed o. o.ram;
+}

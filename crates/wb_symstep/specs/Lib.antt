@@ -2,3 +2,4 @@ pub mod State
 pub mod Stepped
 pub mod Laws
 pub mod Parts
+pub mod Assembled

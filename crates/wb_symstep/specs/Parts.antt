@@ -17,7 +17,7 @@ use Rattle.wb_word.specs.declared.codes.Dst.TheVariants as dst
 use Rattle.wb_machine.specs.State.{State, IsState}
 use Rattle.wb_machine.specs.Next.{merged}
 use Rattle.wb_symstep.specs.declared.state.SymState.{SymState}
-use Rattle.wb_symstep.specs.State.{StandsFor, IsSymState, StateHasOnly}
+use Rattle.wb_symstep.specs.State.{status, StandsFor, IsSymState, StateHasOnly}
 
 -- a case: inputs under which the state stands for a machine in its ranges
 pub record Stands (inputs : Assignment) (g : Terms) (s : SymState) (m : State) : Type 0 where
@@ -50,6 +50,12 @@ pub record IsRamOf (g : Terms) (s : SymState) (ids : List WordId) (part : State 
   pub value : (inputs : Assignment) (m : State) → Stands inputs g s m → (k : ℕ) → k < 256 →
       word_value inputs g (word_in ids k) ≡ slice_index (part m) k
   pub only : (allowed : Node → Bool) → StateHasOnly g allowed s → WordsHaveOnly g allowed ids
+
+-- the same of SR, whose RQM and DRS are beside its word
+pub record IsStatusOf (g : Terms) (s : SymState) (rqm drs : Bool) (id : WordId) (part : State → ℕ) : Type 0 where
+  pub there : HasWord g id
+  pub value : (inputs : Assignment) (m : State) → Stands inputs g s m → status rqm drs (word_value inputs g id) ≡ part m
+  pub only : (allowed : Node → Bool) → StateHasOnly g allowed s → HasOnly g allowed id.number
 
 -- the same of a whole state: in each case it stands for what comes of the machine
 pub record IsAfter (g : Terms) (s next : SymState) (step : State → State) : Type 0 where

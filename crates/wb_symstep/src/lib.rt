@@ -7,7 +7,9 @@
 mod compute;
 mod laws;
 mod moves;
+mod operate;
 mod pointers;
+mod registers;
 mod sources;
 mod state;
 mod status;

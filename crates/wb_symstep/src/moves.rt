@@ -1,12 +1,12 @@
-ghost use Rattle.std.specs.Prelude.{◌≡◌, ◌+◌, ◌≤◌, ◌^◌, ◌||◌, Bool, ℕ, List, [], ◌∷◌, IfOk, length, slice_index, slice_set};
+ghost use Rattle.std.specs.Prelude.{◌≡◌, ◌≢◌, ◌+◌, ◌≤◌, ◌^◌, Bool, ℕ, List, [], ◌∷◌, IfOk, length, slice_index, slice_set};
 ghost use Rattle.wb_term.specs.Terms.{Terms, HasWord, IsKept, table_words};
 ghost use Rattle.wb_term.specs.Values.{IsWord, word_value};
 ghost use Rattle.wb_term.specs.Growth.{Grown, AddsAtMost};
 ghost use Rattle.wb_make.specs.Inputs.{BringsOnly};
 ghost use Rattle.wb_alu.specs.declared.flags.Flags.{Flags};
 ghost use Rattle.wb_machine.specs.State.{State};
-ghost use Rattle.wb_machine.specs.Next.{far_address, moved_a, moved_b, moved_dp, moved_dr, moved_k, moved_l, moved_ram, moved_rp, moved_so, moved_sr, moved_tr, moved_trb, raised_by, worked_on};
-ghost use Rattle.wb_symstep.specs.State.{status, IsSymState};
+ghost use Rattle.wb_machine.specs.Next.{far_address, moved_a, moved_b, moved_dp, moved_dr, moved_k, moved_l, moved_ram, moved_rp, moved_so, moved_tr, moved_trb, worked_on};
+ghost use Rattle.wb_symstep.specs.State.{IsSymState};
 ghost use Rattle.wb_symstep.specs.Parts.{IsPart, AreFlagsOf, IsRamOf, sr_written};
 
 use crate::sources::{far_word, rom_word};
@@ -18,7 +18,7 @@ use std::alloc::Global;
 use wb_fold::{Pages, pages_store};
 use wb_rom::Image;
 use wb_term::{Graph, OutOfMemory, Table, WordId};
-use wb_word::{Acc, Dst, Src};
+use wb_word::{Acc, Dst};
 
 /// DP, RP and SR after the bus moved.
 pub(crate) fn narrowed(
@@ -172,12 +172,13 @@ fn memory_read(
     requires state { IsSymState graph.old state.now }
     requires kept { IsKept graph.old.tables table }
     requires words { table_words graph.old.tables table ≡ image.now.drom }
+    requires read { dst ≢ Dst.Mem }
     requires room { length graph.old.nodes + 302 ≤ 2 ^ 31 }
     ensures k { IfOk result (λ r. (p : State → ℕ) → IsPart graph.old state.now bus p →
         IsPart graph.new state.now r.k (λ m. moved_k dst (p m) m.ram m.regs.dp m.regs.k)) }
     ensures l { IfOk result (λ r. (p : State → ℕ) → IsPart graph.old state.now bus p →
         IsPart graph.new state.now r.l (λ m. moved_l dst (p m) image.now.drom m.regs.rp m.regs.l)) }
-    ensures ram { IfOk result (λ r. r.ram ≡ state.now.ram) }
+    ensures ram { IfOk result (λ r. (p : State → ℕ) → IsRamOf graph.new state.now r.ram (λ m. moved_ram dst (p m) m.regs.dp m.ram)) }
     ensures grown { Grown graph.old graph.new }
     ensures adds { AddsAtMost graph.old graph.new 302 32768 }
 {
@@ -190,18 +191,59 @@ fn memory_read(
     })
 }
 
-/// Whether the source raises RQM.
-fn source_raises(src: Src) -> bool
-    ensures { (rqm drs : Bool) (word : ℕ) → status (result || rqm) drs word ≡ raised_by src (status rqm drs word) }
+/// The RAM after the bus is stored at DP, and the inputs of the multiplier as they were.
+fn memory_written(
+    graph: &mut Graph,
+    alloc: Global,
+    state: &SymState,
+    bus: WordId,
+) -> Result<Memory, OutOfMemory>
+    requires state { IsSymState graph.old state.now }
+    requires bus { HasWord graph.old bus }
+    requires room { length graph.old.nodes + 800 ≤ 2 ^ 31 }
+    ensures k { IfOk result (λ r. (p : State → ℕ) → IsPart graph.new state.now r.k (λ m. moved_k Dst.Mem (p m) m.ram m.regs.dp m.regs.k)) }
+    ensures l { IfOk result (λ r. (p : State → ℕ) (drom : List ℕ) → IsPart graph.new state.now r.l (λ m. moved_l Dst.Mem (p m) drom m.regs.rp m.regs.l)) }
+    ensures ram { IfOk result (λ r. (p : State → ℕ) → IsPart graph.old state.now bus p →
+        IsRamOf graph.new state.now r.ram (λ m. moved_ram Dst.Mem (p m) m.regs.dp m.ram)) }
+    ensures grown { Grown graph.old graph.new }
+    ensures adds { AddsAtMost graph.old graph.new 800 32768 }
 {
-    matches!(src, Src::Dr)
+    let ram = stored(graph, alloc, state, bus)?;
+    Ok(Memory {
+        k: state.k,
+        l: state.l,
+        ram,
+    })
 }
 
-/// Whether a move raises RQM.
-fn move_raises(dst: Dst) -> bool
-    ensures { (rqm drs : Bool) (bus word : ℕ) → status (result || rqm) drs (sr_written dst bus word) ≡ moved_sr dst bus (status rqm drs word) }
+/// The inputs of the multiplier and the RAM after the bus moved.
+pub(crate) fn memory(
+    graph: &mut Graph,
+    alloc: Global,
+    image: &Image,
+    table: Table,
+    state: &SymState,
+    dst: Dst,
+    bus: WordId,
+) -> Result<Memory, OutOfMemory>
+    requires state { IsSymState graph.old state.now }
+    requires bus { HasWord graph.old bus }
+    requires kept { IsKept graph.old.tables table }
+    requires words { table_words graph.old.tables table ≡ image.now.drom }
+    requires room { length graph.old.nodes + 800 ≤ 2 ^ 31 }
+    ensures k { IfOk result (λ r. (p : State → ℕ) → IsPart graph.old state.now bus p →
+        IsPart graph.new state.now r.k (λ m. moved_k dst (p m) m.ram m.regs.dp m.regs.k)) }
+    ensures l { IfOk result (λ r. (p : State → ℕ) → IsPart graph.old state.now bus p →
+        IsPart graph.new state.now r.l (λ m. moved_l dst (p m) image.now.drom m.regs.rp m.regs.l)) }
+    ensures ram { IfOk result (λ r. (p : State → ℕ) → IsPart graph.old state.now bus p →
+        IsRamOf graph.new state.now r.ram (λ m. moved_ram dst (p m) m.regs.dp m.ram)) }
+    ensures grown { Grown graph.old graph.new }
+    ensures adds { AddsAtMost graph.old graph.new 800 32768 }
 {
-    matches!(dst, Dst::Dr)
+    match dst {
+        Dst::Mem => memory_written(graph, alloc, state, bus),
+        _ => memory_read(graph, alloc, image, table, state, dst, bus),
+    }
 }
 
 /// The registers that take the bus as it is, after it moved.

@@ -57,6 +57,15 @@ pub(crate) struct Memory {
     pub(crate) ram: Pages,
 }
 
+/// DP, RP and SR with its RQM.
+#[derive(Clone, Copy)]
+pub(crate) struct Registers {
+    pub(crate) dp: WordId,
+    pub(crate) rp: WordId,
+    pub(crate) sr: WordId,
+    pub(crate) rqm: bool,
+}
+
 /// Both accumulators with their flags.
 #[derive(Clone, Copy)]
 pub(crate) struct Accumulators {
@@ -64,4 +73,11 @@ pub(crate) struct Accumulators {
     pub(crate) b: WordId,
     pub(crate) flags_a: SymFlags,
     pub(crate) flags_b: SymFlags,
+}
+
+/// The word on the bus, and the accumulators after the ALU's work.
+#[derive(Clone, Copy)]
+pub(crate) struct Worked {
+    pub(crate) bus: WordId,
+    pub(crate) after: Accumulators,
 }
