@@ -8,3 +8,4 @@ pub mod Working
 pub mod Storing
 pub mod Moving
 pub mod Assembling
+pub mod Testing

@@ -3,3 +3,4 @@ pub mod Stepped
 pub mod Laws
 pub mod Parts
 pub mod Assembled
+pub mod Tested

@@ -5,6 +5,7 @@
 #![tactic(auto)]
 
 mod compute;
+mod conditions;
 mod laws;
 mod moves;
 mod operate;

@@ -1,5 +1,6 @@
 use wb_fold::{Pages, SymFlags};
 use wb_term::{BitId, WordId};
+use wb_word::Acc;
 
 /// The word on the bus, and the second operand of the ALU.
 #[derive(Clone, Copy)]
@@ -80,4 +81,23 @@ pub(crate) struct Accumulators {
 pub(crate) struct Worked {
     pub(crate) bus: WordId,
     pub(crate) after: Accumulators,
+}
+
+/// One of the flags of an accumulator.
+#[derive(Clone, Copy)]
+pub(crate) enum Flag {
+    C,
+    Z,
+    S0,
+    S1,
+    Ov0,
+    Ov1,
+}
+
+/// A jump that is taken where a flag has a value.
+#[derive(Clone, Copy)]
+pub(crate) struct FlagTest {
+    pub(crate) acc: Acc,
+    pub(crate) flag: Flag,
+    pub(crate) set: bool,
 }
