@@ -9,3 +9,4 @@ pub mod Storing
 pub mod Moving
 pub mod Assembling
 pub mod Testing
+pub mod Jumping

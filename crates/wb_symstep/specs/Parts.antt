@@ -12,11 +12,14 @@ use Rattle.wb_alu.specs.declared.flags.Flags.{Flags}
 use Rattle.wb_fold.specs.declared.flags.SymFlags.{SymFlags}
 use Rattle.wb_fold.specs.Flags.{flags_value, flag_numbers, HasFlags}
 use Rattle.wb_fold.specs.Ram.{word_in, HasWords, WordsHaveOnly}
+use Rattle.wb_word.specs.declared.conditions.Cond.{Cond}
 use Rattle.wb_word.specs.declared.codes.Dst.{Dst}
 use Rattle.wb_word.specs.declared.codes.Dst.TheVariants as dst
 use Rattle.wb_machine.specs.State.{State, IsState}
-use Rattle.wb_machine.specs.Next.{merged}
+use Rattle.wb_machine.specs.Next.{merged, taken}
 use Rattle.wb_symstep.specs.declared.state.SymState.{SymState}
+use Rattle.wb_symstep.specs.declared.stepped.Stepped.{Stepped}
+use Rattle.wb_symstep.specs.Stepped.{chosen, IsStepped, SteppedHasOnly}
 use Rattle.wb_symstep.specs.State.{status, StandsFor, IsSymState, StateHasOnly}
 
 -- a case: inputs under which the state stands for a machine in its ranges
@@ -57,11 +60,21 @@ pub record IsStatusOf (g : Terms) (s : SymState) (rqm drs : Bool) (id : WordId) 
   pub value : (inputs : Assignment) (m : State) → Stands inputs g s m → status rqm drs (word_value inputs g id) ≡ part m
   pub only : (allowed : Node → Bool) → StateHasOnly g allowed s → HasOnly g allowed id.number
 
+-- in each case the machine goes by a known condition
+abbrev pub IsDecided : Terms → SymState → Cond → Bool → Type 0
+IsDecided g s c known = (inputs : Assignment) (m : State) → Stands inputs g s m → taken c m.regs ≡ known
+
 -- the same of a whole state: in each case it stands for what comes of the machine
 pub record IsAfter (g : Terms) (s next : SymState) (step : State → State) : Type 0 where
   pub there : IsSymState g next
   pub value : (inputs : Assignment) (m : State) → Stands inputs g s m → StandsFor inputs g next (step m)
   pub only : (allowed : Node → Bool) → StateHasOnly g allowed s → StateHasOnly g allowed next
+
+-- the same of what may be a fork
+pub record IsSteppedAfter (g : Terms) (s : SymState) (stepped : Stepped) (step : State → State) : Type 0 where
+  pub there : IsStepped g stepped
+  pub value : (inputs : Assignment) (m : State) → Stands inputs g s m → StandsFor inputs g (chosen inputs g stepped) (step m)
+  pub only : (allowed : Node → Bool) → StateHasOnly g allowed s → SteppedHasOnly g allowed stepped
 
 -- the term of SR after a move of the bus; RQM and DRS don't count
 abbrev pub sr_written : Dst → ℕ → ℕ → ℕ

@@ -6,6 +6,8 @@
 
 mod compute;
 mod conditions;
+mod copies;
+mod jumps;
 mod laws;
 mod moves;
 mod operate;
@@ -13,6 +15,7 @@ mod pointers;
 mod registers;
 mod sources;
 mod state;
+
 mod status;
 mod stepped;
 mod words;
