@@ -10,3 +10,5 @@ pub mod Moving
 pub mod Assembling
 pub mod Testing
 pub mod Jumping
+pub mod Stepping
+pub mod Starting

@@ -4,3 +4,4 @@ pub mod Laws
 pub mod Parts
 pub mod Assembled
 pub mod Tested
+pub mod Starts

@@ -101,3 +101,11 @@ pub(crate) struct FlagTest {
     pub(crate) flag: Flag,
     pub(crate) set: bool,
 }
+
+/// The words 0 and 3FF, and a clear bit.
+#[derive(Clone, Copy)]
+pub(crate) struct Constants {
+    pub(crate) zero: WordId,
+    pub(crate) last: WordId,
+    pub(crate) clear: BitId,
+}
