@@ -5,3 +5,5 @@ pub mod AluFlags
 pub mod RamLaws
 pub mod AddressLaws
 pub mod StoreLaws
+pub mod PageLaws
+pub mod MergeLaws

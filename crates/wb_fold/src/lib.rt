@@ -11,6 +11,8 @@ mod addresses;
 mod alu;
 mod flags;
 mod operations;
+mod page;
+mod pages;
 mod ram;
 mod select;
 mod signs;
@@ -18,6 +20,7 @@ mod store;
 
 pub use alu::alu_terms;
 pub use flags::SymFlags;
+pub use pages::{Pages, pages_merge, pages_select, pages_store};
 pub use ram::{ram_select, ram_store};
 pub use wb_make::{
     mk_and, mk_andb, mk_borrow, mk_byte, mk_carry, mk_cell, mk_const, mk_diff, mk_high, mk_ite,
