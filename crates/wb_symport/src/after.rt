@@ -21,43 +21,18 @@ fn requested_after(single: bool, second: bool, rqm: bool) -> bool
     }
 }
 
-/// An equal state.
-fn share(state: &SymState) -> Result<SymState, OutOfMemory>
-    ensures { IfOk result (λ s. s ≡ state.now) }
-{
-    let ram = state.ram.share()?;
-    Ok(SymState {
-        pc: state.pc,
-        sp: state.sp,
-        stack: state.stack,
-        rqm: state.rqm,
-        drs: state.drs,
-        rp: state.rp,
-        dp: state.dp,
-        a: state.a,
-        b: state.b,
-        tr: state.tr,
-        trb: state.trb,
-        k: state.k,
-        l: state.l,
-        dr: state.dr,
-        sr: state.sr,
-        so: state.so,
-        flags_a: state.flags_a,
-        flags_b: state.flags_b,
-        ram,
-    })
-}
-
 /// The state after a transfer that leaves this in DR.
 fn state_after(state: &SymState, single: bool, dr: WordId) -> Result<SymState, OutOfMemory>
     ensures { IfOk result (λ s. s ≡ transferred_to single dr state.now) }
 {
-    let mut next = share(state)?;
-    next.dr = dr;
-    next.rqm = requested_after(single, state.drs, state.rqm);
-    next.drs = if single { state.drs } else { !state.drs };
-    Ok(next)
+    let ram = state.ram.share()?;
+    Ok(SymState {
+        rqm: requested_after(single, state.drs, state.rqm),
+        drs: if single { state.drs } else { !state.drs },
+        dr,
+        ram,
+        ..*state
+    })
 }
 
 /// What comes of a state by a transfer, where a bit says DRC.
