@@ -7,3 +7,4 @@ pub mod Merged
 pub mod Transfers
 pub mod Normal
 pub mod Decided
+pub mod Valued

@@ -1,6 +1,16 @@
 -- What holds of all dialogues under inputs and of all questions.
-use Rattle.std.specs.Prelude.{◌≡◌, ◌↔◌, ℕ, ◌≤◌, List, [], ◌∷◌, ◌++◌, Some, All, length, replicate, slice_get, slice_index}
+use Rattle.std.specs.Prelude.{◌≡◌, ◌↔◌, ℕ, ◌≤◌, Bool, true, false, Option, Some, List, [], ◌∷◌, ◌++◌, All, length, replicate, slice_get, slice_index}
+use Rattle.wb_term.specs.declared.nodes.BitId.{BitId}
+use Rattle.wb_term.specs.declared.nodes.Node.{Node}
+use Rattle.wb_term.specs.declared.nodes.Node.TheVariants.{Word}
+use Rattle.wb_term.specs.declared.nodes.WordNode.TheVariants.{Byte, Cell}
 use Rattle.wb_term.specs.Inputs.{Assignment, IsAssignment}
+use Rattle.wb_term.specs.Terms.{Terms, IsGraph}
+use Rattle.wb_term.specs.Values.{value, bit_value}
+use Rattle.wb_term.specs.Under.{HasOnly}
+use Rattle.wb_gate.specs.Circuit.{Circuit}
+use Rattle.wb_blast.specs.declared.places.Place.{Place}
+use Rattle.wb_blast.specs.Blasting.{AssignsWhereTrue}
 use Rattle.wb_rom.specs.declared.images.Image.{Image}
 use Rattle.wb_port.specs.declared.accesses.Kind.{Kind}
 use Rattle.wb_port.specs.declared.accesses.Kind.TheVariants as kind
@@ -12,6 +22,7 @@ use Rattle.wb_point.specs.declared.question.FixedBit.{FixedBit}
 use Rattle.wb_point.specs.declared.question.Query.{Query}
 use Rattle.wb_point.specs.Dialogues.{access_under, accesses_under, dialogue_under, inputs_of, normalised}
 use Rattle.wb_point.specs.Holds.{HoldsUnder}
+use Rattle.wb_point.specs.Says.{Says}
 
 -- A dialogue of data transfers with an allowed start is that of its kinds under its own inputs.
 abbrev pub TalksComeBack : Type 0
@@ -62,3 +73,31 @@ NormalisedInputsDecide =
     (a b : Image) (k : ℕ) (p : Power) (q : Query) (inputs : Assignment)
     → length q.kinds ≤ 16 → All (λ (f : FixedBit). IsWriteAt q.kinds f.place) q.fixed
     → HoldsUnder a b k p q inputs ↔ HoldsUnder a b k p q (normalised q.kinds p inputs)
+
+abbrev pub is_write : Option Kind → Bool
+is_write (Some kind.Write) = true
+is_write _ = false
+
+abbrev pub is_any : Power → Bool
+is_any power.Zero = false
+is_any power.Any = true
+
+-- an input node that dialogues of these kinds use: the byte of a write, or where any start is allowed a word of it
+abbrev pub is_used : List Kind → Power → Node → Bool
+is_used ks p (Word (Byte place)) = is_write (slice_get ks place)
+is_used ks p (Word (Cell place)) = is_any p
+is_used ks p _ = false
+
+-- Normalised inputs give each node the value that the inputs gave it, where only such input nodes stand under it.
+abbrev pub NormalisedInputsGiveTheValues : Type 0
+NormalisedInputsGiveTheValues =
+    (g : Terms) → IsGraph g → (ks : List Kind) (p : Power) (inputs : Assignment) → length ks ≤ 16
+    → (k : ℕ) → HasOnly g (is_used ks p) k → value (normalised ks p inputs) g k ≡ value inputs g k
+
+-- A formula of a bit says a question where for all inputs the bit is true exactly where the question holds.
+abbrev pub BitsSayQuestions : Type 0
+BitsSayQuestions =
+    (a b : Image) (k : ℕ) (p : Power) (q : Query) (g : Terms) (c : BitId) (formula : Circuit) (places : List Place)
+    → AssignsWhereTrue g c formula places
+    → ((inputs : Assignment) → IsAssignment inputs → (bit_value inputs g c ≡ true) ↔ HoldsUnder a b k p q inputs)
+    → Says a b k p formula places q

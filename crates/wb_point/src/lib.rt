@@ -16,7 +16,8 @@ mod question;
 pub use dialogues::{dialogue_of, inputs_of, normalise};
 pub use keys::{same_key, same_place, shown};
 pub use laws::{
-    dialogues_are_of_their_kinds, dialogues_grow_at_the_end, normalised_inputs_decide,
+    bits_say_questions, dialogues_are_of_their_kinds, dialogues_grow_at_the_end,
+    normalised_inputs_decide, normalised_inputs_give_the_values,
     normalised_inputs_keep_the_dialogue, talks_come_back,
 };
 pub use merging::merge;

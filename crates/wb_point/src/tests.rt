@@ -9,7 +9,8 @@ use wb_word::Side;
 /// Inputs whose bytes are 0x50, 0x51 and so on, over a start of sevens.
 fn inputs(rt: &HostRuntime) -> Result<Inputs, OutOfMemory> {
     let bytes = [
-        0x50, 0x51, 0x52, 0x53, 0x54, 0x55, 0x56, 0x57, 0x58, 0x59, 0x5A, 0x5B, 0x5C, 0x5D, 0x5E, 0x5F,
+        0x50, 0x51, 0x52, 0x53, 0x54, 0x55, 0x56, 0x57, 0x58, 0x59, 0x5A, 0x5B, 0x5C, 0x5D, 0x5E,
+        0x5F,
     ];
     Inputs::new(rt.alloc(), &bytes, &[7; 256])
 }
@@ -38,9 +39,27 @@ fn dialogues_go_by_their_inputs(rt: HostRuntime) -> Result<(), Fail> {
     let zero = dialogue_of(rt.alloc(), &kinds(&rt)?, &given, Power::Zero)?;
     assert_eq!(rt; parts(&zero), (0, wanted.as_slice()));
     let back = inputs_of(rt.alloc(), &any)?;
-    assert_eq!(rt; (back.byte(0), back.byte(1), back.byte(2), back.byte(3), back.cell(9)), (0x50, 0, 0x52, 0, 7));
+    assert_eq!(rt;
+        (
+            back.byte(0),
+            back.byte(1),
+            back.byte(2),
+            back.byte(3),
+            back.cell(9)
+        ),
+        (0x50, 0, 0x52, 0, 7)
+    );
     let normal = normalise(rt.alloc(), &given, &kinds(&rt)?, Power::Zero)?;
-    assert_eq!(rt; (normal.byte(0), normal.byte(1), normal.byte(2), normal.byte(3), normal.cell(9)), (0x50, 0, 0x52, 0, 0));
+    assert_eq!(rt;
+        (
+            normal.byte(0),
+            normal.byte(1),
+            normal.byte(2),
+            normal.byte(3),
+            normal.cell(9)
+        ),
+        (0x50, 0, 0x52, 0, 0)
+    );
     Ok(())
 }
 
