@@ -1,0 +1,10 @@
+pub mod Growth
+pub mod MergeWords
+pub mod MergeBits
+pub mod Told
+pub mod Compared
+pub mod Merged
+pub mod Transfers
+pub mod Normal
+pub mod Decided
+pub mod Valued
