@@ -120,9 +120,25 @@ fn shared_pages(rt: &HostRuntime) -> Result<([u16; 2], [u32; 3]), OutOfMemory> {
     Ok((values, numbers))
 }
 
+/// Values under a byte of 7F after a store of 9 there in pages of these constants: the entry's, and the next one's.
+fn pages_at_byte(rt: &HostRuntime) -> Result<[u16; 2], OutOfMemory> {
+    let mut graph = graph_of(rt)?;
+    let words = constants(rt, &mut graph)?;
+    let mut ram = Pages::from_list(rt.alloc(), &words)?;
+    let dp = mk_byte(&mut graph, 0)?;
+    let nine = mk_const(&mut graph, 9)?;
+    pages_store(&mut graph, rt.alloc(), &mut ram, dp, nine)?;
+    let read = pages_select(&mut graph, rt.alloc(), &ram, dp)?;
+    Ok([
+        value_of(rt, &graph, read, 0x7F)?,
+        value_of(rt, &graph, ram.get(0x80), 0x7F)?,
+    ])
+}
+
 #[test]
 fn ram_keeps_what_is_stored(rt: HostRuntime) -> Result<(), Fail> {
     assert_eq!(rt; ram_at_bytes(&rt)?, [0x007F, 0x0009, 0x0003]);
+    assert_eq!(rt; pages_at_byte(&rt)?, [0x0009, 0x0080]);
     assert_eq!(rt; shared_pages(&rt)?, ([9, 9], [0x20, 0x21, 0xFF]));
     Ok(())
 }
