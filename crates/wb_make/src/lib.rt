@@ -1,9 +1,11 @@
 //! Constructors of the term graph: one for each kind of node.
 //!
-//! Each gives a node that has the value of its kind under all inputs, but a smaller one where a rule of
+//! Each gives a node that has the value of its kind under all inputs, but an older or a smaller one where a rule of
 //! `docs/terms.md` tells it. None brings in an input node of its own, and each adds at most one node, no heavier
-//! than its kind. `leaves` has the constants and the inputs, `words`, `sums` and `shifts` the other words, `bits`
-//! and `comparisons` the other bits.
+//! than its kind. A constructor first decides on a form by reading the graph alone, and then makes it: `forms` has the
+//! forms, older nodes or ones to make. `leaves` has the constants and the inputs, `words` NOT, AND, OR and XOR, with
+//! the rules of the last three in `conjunctions` and `disjunctions`; `shifts`, `sums`, `choices` and `products`, with
+//! the look-ups, have the other words, `bits`, `picks` and `comparisons` the other bits.
 #![tactic(auto)]
 
 mod bits;

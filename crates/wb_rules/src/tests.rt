@@ -6,9 +6,9 @@ use crate::made::On::{C, D, F, G, P, Q};
 use crate::made::WordStep::{And, Diff, High, Ite, Keep, Low, Not, Or, Shl, Shr, Sum, Xor};
 use crate::made::{BitStep, WordStep, after_bits, after_words, begin};
 use std::test::Fail;
-use wb_make::{OutOfMemory, mk_look};
+use wb_fold::{OutOfMemory, Pages, SymFlags, alu_terms, mk_look, pages_select, pages_store};
 use wb_term::{Graph, Inputs, Scratch, Table};
-use wb_word::Rom;
+use wb_word::{Alu, Rom};
 
 fn graph_of(rt: &HostRuntime) -> Result<Graph, OutOfMemory>
     ensures { IfOk result (λ graph. graph.nodes ≡ []) }
@@ -359,6 +359,53 @@ fn picks_and_comparisons_are_folded(rt: HostRuntime) -> Result<(), Fail> {
     ] {
         assert_eq!(rt; bit_of(&rt, constant, words, bits)?.0, number);
     }
+    Ok(())
+}
+
+/// The numbers of Z and its carry, doubled by an addition and by a shift with no bit shifted in.
+fn doubled(rt: &HostRuntime) -> Result<[u32; 4], OutOfMemory> {
+    let mut graph = graph_of(rt)?;
+    let start = begin(&mut graph, 0)?;
+    let clear = SymFlags {
+        c: start.c,
+        z: start.c,
+        s0: start.c,
+        s1: start.c,
+        ov0: start.c,
+        ov1: start.c,
+    };
+    let (sum, one) = alu_terms(&mut graph, Alu::Add, start.z, start.z, start.c, clear)?;
+    let (shifted, other) = alu_terms(&mut graph, Alu::Shl1, start.z, start.w, start.c, clear)?;
+    Ok([
+        sum.number(),
+        shifted.number(),
+        one.c.number(),
+        other.c.number(),
+    ])
+}
+
+#[test]
+fn a_word_is_doubled_alike(rt: HostRuntime) -> Result<(), Fail> {
+    let [sum, shifted, carry, shifted_out] = doubled(&rt)?;
+    assert_eq!(rt; (sum, carry), (shifted, shifted_out));
+    Ok(())
+}
+
+/// The number of what is read at a place of a RAM of Zs after W was stored there, and at the next place.
+fn stored(rt: &HostRuntime) -> Result<[u32; 2], OutOfMemory> {
+    let mut graph = graph_of(rt)?;
+    let start = begin(&mut graph, 0x20)?;
+    let words = vec![in rt.alloc(); start.z; 256]?;
+    let mut ram = Pages::from_list(rt.alloc(), &words)?;
+    pages_store(&mut graph, rt.alloc(), &mut ram, start.y, start.w)?;
+    let read = pages_select(&mut graph, rt.alloc(), &ram, start.y)?;
+    Ok([read.number(), ram.get(0x21).number()])
+}
+
+#[test]
+fn what_is_stored_is_loaded_again(rt: HostRuntime) -> Result<(), Fail> {
+    // Z is node 0, W 1
+    assert_eq!(rt; stored(&rt)?, [1, 0]);
     Ok(())
 }
 
