@@ -1,7 +1,5 @@
 -- A state from its parts.
-use Rattle.std.proofs.Common.{◌≡◌, ℕ, ◌<◌, Bool, sym, ◌∙◌, ap}
-use Rattle.wb_term.specs.declared.nodes.Node.{Node}
-use Rattle.wb_term.specs.Inputs.{Assignment}
+use Rattle.std.proofs.Common.{◌≡◌, ℕ, ◌<◌, sym, ◌∙◌, ap}
 use Rattle.wb_term.specs.Terms.{Terms}
 use Rattle.wb_machine.specs.State.{State}
 use Rattle.wb_machine.specs.Next.{following}

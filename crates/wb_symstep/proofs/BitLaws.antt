@@ -101,8 +101,8 @@ status_is rqm drs n h =
     let o = others n h in
     let sum = or_disjoint (bit_and n 28671) (requests rqm drs) (and_assoc (requests rqm drs) n 28671 ∙ ap (bit_and n) (free rqm drs) ∙ and_zero_r n) in
     omega (arith, o, sum) where
-  free : (rqm drs : Bool) → bit_and 28671 (requests rqm drs) ≡ 0
-  free true true = refl
-  free true false = refl
-  free false true = refl
-  free false false = refl
+      free : (rqm drs : Bool) → bit_and 28671 (requests rqm drs) ≡ 0
+      free true true = refl
+      free true false = refl
+      free false true = refl
+      free false false = refl

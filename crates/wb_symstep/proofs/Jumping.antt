@@ -21,7 +21,6 @@ use Rattle.wb_machine.specs.declared.registers.Regs.{Regs}
 use Rattle.wb_machine.specs.State.{State}
 use Rattle.wb_machine.specs.Next.{a_after, b_after, carried, dp_after, dr_after, flags_a_after, flags_b_after, following, k_after, l_after, next_by, pc_after, ram_after, regs_after, rp_after, so_after, sp_after, sp_called, sr_after, stack_after, stack_called, taken, tr_after, trb_after, worked, worked_flags, sp_up, sp_down}
 use Rattle.wb_symstep.specs.declared.state.SymState.{SymState}
-use Rattle.wb_symstep.specs.declared.stepped.Stepped.{Stepped}
 use Rattle.wb_symstep.specs.declared.stepped.Stepped.TheVariants.{One, Fork}
 use Rattle.wb_symstep.specs.State.{status, StandsFor, IsSymState, StateHasOnly}
 use Rattle.wb_symstep.specs.Stepped.{chosen, is_known, tests_terms, SaysTaken}
@@ -105,7 +104,6 @@ jumped i g s m c na spare image to sp stack st pc_is sp_is stack_is = record {
 }
 
 module _ (g : Terms) (s : SymState) (is : IsSymState g s) (c : Cond) (na : Addr) (spare : Spare) (image : Image) where
-
   at_stands : (i : Assignment) (m : State) (to : ℕ) → c ≢ cond.Call → Stands i g s m → to ≡ (if taken c m.regs then na.value else following m.regs.pc)
       → StandsFor i g (record s { pc = to }) (next_by (Jp c na spare) image m)
   at_stands i m to other st e =

@@ -1,9 +1,8 @@
 -- DP, RP and SR after a move, as parts of the machine.
-use Rattle.std.proofs.Common.{◌≡◌, ℕ, Bool, List, [], ◌∷◌, ◌∙◌, ap}
+use Rattle.std.proofs.Common.{◌≡◌, ℕ, Bool, [], ◌∷◌, ◌∙◌, ap}
 use Rattle.wb_word.specs.declared.codes.Dst.{Dst}
 use Rattle.wb_term.specs.declared.nodes.WordId.{WordId}
-use Rattle.wb_term.specs.Inputs.{Assignment}
-use Rattle.wb_term.specs.Terms.{Terms, HasWord}
+use Rattle.wb_term.specs.Terms.{Terms}
 use Rattle.wb_term.specs.Values.{IsWord, word_value}
 use Rattle.wb_term.specs.Growth.{Grown}
 use Rattle.wb_make.specs.Inputs.{BringsOnly}
@@ -15,7 +14,6 @@ use Rattle.wb_symstep.specs.Parts.{IsPart, IsStatusOf, sr_written}
 use Rattle.wb_symstep.proofs.Parts.{stood, state_had_only}
 
 module _ (old new : Terms) (grown : Grown old new) (s : SymState) (is : IsSymState old s) where
-
   -- SR after a source raised it and the bus moved
   pub raised : (d : Dst) (bus id : WordId) (p : State → ℕ) (one other : Bool) (by_source : ℕ → ℕ) → IsPart old s bus p
       → ((word : ℕ) → status one s.drs word ≡ by_source (status s.rqm s.drs word))

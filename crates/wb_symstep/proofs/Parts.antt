@@ -1,27 +1,25 @@
 -- Parts of the machine in a graph that grows, and the parts that the operations on terms give.
-use Rattle.std.proofs.Common.{◌≡◌, ℕ, ◌+◌, ◌<◌, Bool, true, List, [], ◌∷◌, Some, length, slice_get, sym, ◌∙◌, ap, subst, refl}
+use Rattle.std.proofs.Common.{ℕ, ◌<◌, Bool, List, [], ◌∷◌, sym, ◌∙◌, ap, subst}
 use Rattle.wb_term.specs.declared.nodes.Node.{Node}
 use Rattle.wb_term.specs.declared.nodes.WordId.{WordId}
 use Rattle.wb_term.specs.declared.nodes.BitId.{BitId}
 use Rattle.wb_term.specs.Nodes.{Each}
-use Rattle.wb_term.specs.Inputs.{Assignment, IsAssignment}
-use Rattle.wb_term.specs.Terms.{Terms, HasWord}
+use Rattle.wb_term.specs.Inputs.{Assignment}
+use Rattle.wb_term.specs.Terms.{Terms}
 use Rattle.wb_term.specs.Values.{IsWord, word_value}
 use Rattle.wb_term.specs.Under.{IsUnder, HasOnly, Itself, Below}
 use Rattle.wb_term.specs.Growth.{Grown}
 use Rattle.wb_make.specs.Inputs.{BringsOnly}
 use Rattle.wb_alu.specs.declared.flags.Flags.{Flags}
 use Rattle.wb_fold.specs.declared.flags.SymFlags.{SymFlags}
-use Rattle.wb_fold.specs.Flags.{HasFlags, flags_value, flag_numbers}
-use Rattle.wb_fold.specs.Ram.{word_in, WordsHaveOnly}
+use Rattle.wb_fold.specs.Flags.{flag_numbers}
 use Rattle.wb_machine.specs.State.{State}
 use Rattle.wb_symstep.specs.declared.state.SymState.{SymState}
-use Rattle.wb_symstep.specs.State.{StandsFor, IsSymState, StateHasOnly}
-use Rattle.wb_symstep.specs.Parts.{Stands, IsPart, IsBitPart, AreFlagsOf, IsRamOf, IsAfter}
-use Rattle.wb_symstep.proofs.States.{states_stay, HasFlags-kept, flags_value-kept, FlagsHaveOnly-kept, IsSymState-kept, StateHasOnly-kept}
+use Rattle.wb_symstep.specs.State.{IsSymState, StateHasOnly}
+use Rattle.wb_symstep.specs.Parts.{Stands, IsPart, IsBitPart, AreFlagsOf, IsRamOf}
+use Rattle.wb_symstep.proofs.States.{states_stay, HasFlags-kept, flags_value-kept, FlagsHaveOnly-kept}
 
 module _ (old new : Terms) (grown : Grown old new) where
-
   under : (j k : ℕ) → IsUnder old j k → IsUnder new j k
   under j k (Itself _ _ e) = Itself j k e
   under j k (Below _ _ c n at among u) = Below j k c n (grown.nodes k n at) among (under j c u)
@@ -53,7 +51,6 @@ module _ (old new : Terms) (grown : Grown old new) where
   }
 
   module _ (s : SymState) (is : IsSymState old s) where
-
     pub stood : (i : Assignment) (m : State) → Stands i new s m → Stands i old s m
     stood i m st = record {
       inputs_in = st.inputs_in;

@@ -1,10 +1,9 @@
 -- What is read by the pointers, as parts of the machine.
-use Rattle.std.proofs.Common.{◌≡◌, ℕ, ◌%◌, ◌<◌, Bool, ◌∙◌, ap, lit<, List, [], ◌∷◌, slice_index, if◌then◌else◌}
+use Rattle.std.proofs.Common.{ℕ, ◌%◌, ◌<◌, Bool, ◌∙◌, ap, lit<, List, [], ◌∷◌, slice_index, if◌then◌else◌}
 use Rattle.std.proofs.Math.Nat.{mod-eq_of_lt}
 use Rattle.std.proofs.lemmas.Nat.{or_lt}
 use Rattle.wb_term.specs.declared.nodes.Node.{Node}
 use Rattle.wb_term.specs.declared.nodes.WordId.{WordId}
-use Rattle.wb_term.specs.Inputs.{Assignment}
 use Rattle.wb_term.specs.Terms.{Terms}
 use Rattle.wb_term.specs.Values.{IsWord, word_value, bit_value}
 use Rattle.wb_term.specs.Under.{HasOnly}
@@ -16,7 +15,7 @@ use Rattle.wb_machine.specs.State.{State, IsState}
 use Rattle.wb_machine.specs.Next.{far_address}
 use Rattle.wb_symstep.specs.declared.state.SymState.{SymState}
 use Rattle.wb_symstep.specs.State.{status, IsSymState}
-use Rattle.wb_symstep.specs.Parts.{Stands, IsPart, AreFlagsOf}
+use Rattle.wb_symstep.specs.Parts.{IsPart, AreFlagsOf}
 use Rattle.wb_symstep.proofs.Parts.{stood, state_had_only}
 
 -- the registers of a state are parts
@@ -30,7 +29,6 @@ pub far_below : (dp : ℕ) → dp < 256 → far_address dp < 256
 far_below dp h = or_lt 8 dp 64 h (lit< tt)
 
 module _ (old new : Terms) (grown : Grown old new) (s : SymState) (is : IsSymState old s) where
-
   -- the word that the RAM has at an address
   pub read : (x id : WordId) (at : State → ℕ) → ((m : State) → IsState m → at m < 256) → IsPart old s x at
       → IsWord new id (λ inputs. selected inputs old s.ram x)

@@ -1,5 +1,5 @@
 -- One instruction, from what it leaves in the grown graph.
-use Rattle.std.proofs.Common.{◌≡◌, ℕ, Bool, List, sym, ◌∙◌, ap, subst, slice_index}
+use Rattle.std.proofs.Common.{◌≡◌, ℕ, Bool, ◌∙◌, ap, subst, slice_index}
 use Rattle.wb_word.specs.declared.words.Instr.{Instr}
 use Rattle.wb_word.specs.Encoding.{instr_of}
 use Rattle.wb_rom.specs.declared.images.Image.{Image}
@@ -17,7 +17,6 @@ use Rattle.wb_symstep.specs.Parts.{IsSteppedAfter}
 use Rattle.wb_symstep.proofs.States.{states_stay}
 
 module _ (old new : Terms) (grown : Grown old new) (s : SymState) (is : IsSymState old s) (stepped : Stepped) where
-
   pub stands : (image : Image) (i : Instr) → IsSteppedAfter new s stepped (next_by i image) → i ≡ instr_of (slice_index image.prog s.pc)
       → (inputs : Assignment) → IsAssignment inputs → (m : State) → IsState m → StandsFor inputs old s m
       → StandsFor inputs new (chosen inputs new stepped) (next image m)

@@ -1,11 +1,10 @@
 -- A store into the RAM, as a part of the machine.
-use Rattle.std.proofs.Common.{◌≡◌, ℕ, ◌%◌, ◌<◌, ◌⊎◌, Bool, true, false, List, length, sym, ◌∙◌, ap, subst, inl, inr, slice_index, slice_set, if◌then◌else◌, ◌==◌, ◌≢◌, refl}
+use Rattle.std.proofs.Common.{◌≡◌, ℕ, ◌%◌, ◌<◌, ◌⊎◌, Bool, List, length, sym, ◌∙◌, ap, subst, inl, inr, slice_index, slice_set, if◌then◌else◌, ◌==◌, ◌≢◌, refl}
 use Rattle.std.proofs.lemmas.Bool.{cases_eq, eq-eqb, ne_eqb}
 use Rattle.std.proofs.lemmas.List.{get_or-set_same, get_or-set_other}
 use Rattle.std.proofs.Math.Nat.{mod-eq_of_lt}
 use Rattle.wb_term.specs.declared.nodes.Node.{Node}
 use Rattle.wb_term.specs.declared.nodes.WordId.{WordId}
-use Rattle.wb_term.specs.Inputs.{Assignment}
 use Rattle.wb_term.specs.Terms.{Terms}
 use Rattle.wb_term.specs.Values.{word_value}
 use Rattle.wb_term.specs.Under.{HasOnly}
@@ -17,7 +16,7 @@ use Rattle.wb_machine.specs.State.{State}
 use Rattle.wb_machine.specs.Next.{moved_ram}
 use Rattle.wb_symstep.specs.declared.state.SymState.{SymState}
 use Rattle.wb_symstep.specs.State.{IsSymState}
-use Rattle.wb_symstep.specs.Parts.{Stands, IsPart, IsRamOf}
+use Rattle.wb_symstep.specs.Parts.{IsPart, IsRamOf}
 use Rattle.wb_symstep.proofs.Parts.{stood, state_had_only}
 
 -- an entry of a list after a store
@@ -30,7 +29,6 @@ entry xs at v k within = by (cases_eq k at) where
       ∙ sym (get_or-set_other xs at k v 0 ne)
 
 module _ (old new : Terms) (grown : Grown old new) (s : SymState) (is : IsSymState old s) where
-
   pub written : (ids : List WordId) (bus : WordId) (p : State → ℕ) → IsPart old s bus p → length ids ≡ 256
       → AreWords new ids (λ inputs k. stored inputs old s.ram s.dp bus k)
       → ((allowed : Node → Bool) → WordsHaveOnly old allowed s.ram → HasOnly old allowed s.dp.number → HasOnly old allowed bus.number → WordsHaveOnly new allowed ids)

@@ -1,9 +1,8 @@
 -- Tests on parts of the machine.
-use Rattle.std.proofs.Common.{◌≡◌, ℕ, ◌%◌, Bool, not, List, [], ◌∷◌, ◌∙◌, ap, bit_and, ◌==◌}
+use Rattle.std.proofs.Common.{ℕ, ◌%◌, Bool, not, [], ◌∷◌, ◌∙◌, ap, bit_and, ◌==◌}
 use Rattle.std.proofs.lemmas.Nat.{and_mask}
 use Rattle.wb_term.specs.declared.nodes.WordId.{WordId}
 use Rattle.wb_term.specs.declared.nodes.BitId.{BitId}
-use Rattle.wb_term.specs.Inputs.{Assignment}
 use Rattle.wb_term.specs.Terms.{Terms}
 use Rattle.wb_term.specs.Values.{IsBit, word_value, bit_value}
 use Rattle.wb_term.specs.Growth.{Grown}
@@ -15,7 +14,6 @@ use Rattle.wb_symstep.specs.Parts.{IsPart, IsBitPart}
 use Rattle.wb_symstep.proofs.Parts.{stood, state_had_only}
 
 module _ (old new : Terms) (grown : Grown old new) (s : SymState) (is : IsSymState old s) where
-
   pub inverted : (c id : BitId) (p : State → Bool) → IsBitPart old s c p → IsBit new id (λ inputs. not (bit_value inputs old c))
       → BringsOnly old new (c.number ∷ []) id.number → IsBitPart new s id (λ m. not (p m))
   inverted c id p h is_id brings = record {

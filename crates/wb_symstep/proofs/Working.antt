@@ -1,11 +1,10 @@
 -- What the ALU and the multiplier give, as parts of the machine.
-use Rattle.std.proofs.Common.{◌≡◌, ℕ, ◌/◌, ◌%◌, Bool, List, [], ◌∷◌, ◌∙◌, ap, refl}
+use Rattle.std.proofs.Common.{◌≡◌, ℕ, ◌/◌, ◌%◌, Bool, [], ◌∷◌, ◌∙◌, ap, refl}
 use Rattle.wb_word.specs.declared.codes.Alu.{Alu}
 use Rattle.wb_term.specs.declared.nodes.Node.{Node}
 use Rattle.wb_term.specs.declared.nodes.WordId.{WordId}
 use Rattle.wb_term.specs.declared.nodes.BitId.{BitId}
 use Rattle.wb_term.specs.Nodes.{Each}
-use Rattle.wb_term.specs.Inputs.{Assignment}
 use Rattle.wb_term.specs.Numbers.{product as term_product}
 use Rattle.wb_term.specs.Terms.{Terms}
 use Rattle.wb_term.specs.Values.{IsWord, word_value, bit_value}
@@ -35,13 +34,12 @@ unfolding term_product product
 same_product x y = refl
 
 module _ (old new : Terms) (grown : Grown old new) (s : SymState) (is : IsSymState old s) where
-
   pub high : (id : WordId) → IsWord new id (λ inputs. term_product (word_value inputs old s.k) (word_value inputs old s.l) / 65536)
       → BringsOnly old new (s.k.number ∷ s.l.number ∷ []) id.number
       → IsPart new s id (λ m. product m.regs.k m.regs.l / 65536)
   high id is_id brings =
       let h = of_two old new grown s is s.k s.l id (λ m. m.regs.k) (λ m. m.regs.l) (λ x y. term_product x y / 65536)
-          (k_part old s is) (l_part old s is) is_id brings in
+      (k_part old s is) (l_part old s is) is_id brings in
       record { there = h.there; value = λ i m st. h.value i m st ∙ ap (λ (n : ℕ). n / 65536) (same_product m.regs.k m.regs.l); only = h.only }
 
   pub low : (id : WordId) → IsWord new id (λ inputs. term_product (word_value inputs old s.k) (word_value inputs old s.l) % 65536)
@@ -49,15 +47,14 @@ module _ (old new : Terms) (grown : Grown old new) (s : SymState) (is : IsSymSta
       → IsPart new s id (λ m. product m.regs.k m.regs.l % 65536)
   low id is_id brings =
       let h = of_two old new grown s is s.k s.l id (λ m. m.regs.k) (λ m. m.regs.l) (λ x y. term_product x y % 65536)
-          (k_part old s is) (l_part old s is) is_id brings in
+      (k_part old s is) (l_part old s is) is_id brings in
       record { there = h.there; value = λ i m st. h.value i m st ∙ ap (λ (n : ℕ). n % 65536) (same_product m.regs.k m.regs.l); only = h.only }
 
   module _ (op : Alu) (q p value : WordId) (c : BitId) (f after : SymFlags) (q_part p_part : State → ℕ) (c_part : State → Bool) (f_part : State → Flags)
       (hq : IsPart old s q q_part) (hp : IsPart old s p p_part) (hc : IsBitPart old s c c_part) (hf : AreFlagsOf old s f f_part)
       (brings : (allowed : Node → Bool) →
-          Each (HasOnly old allowed) (q.number ∷ p.number ∷ c.number ∷ flag_numbers f) →
-          Each (HasOnly new allowed) (value.number ∷ flag_numbers after)) where
-
+      Each (HasOnly old allowed) (q.number ∷ p.number ∷ c.number ∷ flag_numbers f) →
+      Each (HasOnly new allowed) (value.number ∷ flag_numbers after)) where
     only : (allowed : Node → Bool) → StateHasOnly new allowed s → Each (HasOnly new allowed) (value.number ∷ flag_numbers after)
     only allowed o =
         let had = state_had_only old new grown allowed s o in

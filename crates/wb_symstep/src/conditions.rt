@@ -97,11 +97,7 @@ fn flag_bit(acc: Acc, flag: Flag, state: &SymState) -> BitId
 }
 
 /// Whether a flag has the value that a test wants.
-fn flag_condition(
-    graph: &mut Graph,
-    test: FlagTest,
-    state: &SymState,
-) -> Result<BitId, OutOfMemory>
+fn flag_condition(graph: &mut Graph, test: FlagTest, state: &SymState) -> Result<BitId, OutOfMemory>
     requires state { IsSymState graph.old state.now }
     requires room { length graph.old.nodes + 1 ≤ 2 ^ 31 }
     ensures part { IfOk result (λ c. IsBitPart graph.new state.now c (λ m. beq test.set (flag_in test.flag (flags_of test.acc m.regs)))) }

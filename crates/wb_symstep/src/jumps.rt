@@ -88,12 +88,7 @@ fn open_branch(
 }
 
 /// A jump other than a call.
-fn branch(
-    graph: &mut Graph,
-    state: &SymState,
-    cond: Cond,
-    na: Addr,
-) -> Result<Stepped, OutOfMemory>
+fn branch(graph: &mut Graph, state: &SymState, cond: Cond, na: Addr) -> Result<Stepped, OutOfMemory>
     requires jump { cond ≢ Cond.Call }
     requires state { IsSymState graph.old state.now }
     requires room { length graph.old.nodes + 5 ≤ 2 ^ 31 }

@@ -122,14 +122,8 @@ fn factors(
     ensures adds { AddsAtMost graph.old graph.new 302 32768 }
 {
     match dst {
-        Dst::K => Ok(Factors {
-            k: bus,
-            l: state.l,
-        }),
-        Dst::L => Ok(Factors {
-            k: state.k,
-            l: bus,
-        }),
+        Dst::K => Ok(Factors { k: bus, l: state.l }),
+        Dst::L => Ok(Factors { k: state.k, l: bus }),
         Dst::Klr => factors_by_rp(graph, image, table, state, bus),
         Dst::Klm => factors_by_dp(graph, alloc, state, bus),
         _ => Ok(Factors {

@@ -100,11 +100,7 @@ fn step_halves(
 }
 
 /// RP after the change that a word makes in it.
-pub(crate) fn step_rp(
-    graph: &mut Graph,
-    change: bool,
-    rp: WordId,
-) -> Result<WordId, OutOfMemory>
+pub(crate) fn step_rp(graph: &mut Graph, change: bool, rp: WordId) -> Result<WordId, OutOfMemory>
     requires rp { HasWord graph.old rp }
     requires room { length graph.old.nodes + 5 ≤ 2 ^ 31 }
     ensures value { IfOk result (λ id. IsWord graph.new id (λ inputs. rp_stepped change (word_value inputs graph.old rp))) }

@@ -36,11 +36,7 @@ fn raised_by_move(dst: Dst, rqm: bool) -> bool
 }
 
 /// DP and RP after the changes that a word makes in them.
-fn stepped_pointers(
-    graph: &mut Graph,
-    op: &OpWord,
-    state: &SymState,
-) -> Result<Narrow, OutOfMemory>
+fn stepped_pointers(graph: &mut Graph, op: &OpWord, state: &SymState) -> Result<Narrow, OutOfMemory>
     requires state { IsSymState graph.old state.now }
     requires room { length graph.old.nodes + 15 ≤ 2 ^ 31 }
     ensures dp { IfOk result (λ r. IsPart graph.new state.now r.dp (λ m. dp_stepped op.now.dpl op.now.dphm.value m.regs.dp)) }

@@ -1,4 +1,4 @@
-use Rattle.std.proofs.Common.{ℕ, bit_and}
+use Rattle.std.proofs.Common.{bit_and}
 use Rattle.wb_symstep.proofs.Growth.{◌▸◌}
 use Rattle.wb_symstep.proofs.Meanings.{from_two}
 use Rattle.wb_symstep.proofs.States.{IsSymState-kept}
@@ -13,7 +13,7 @@ returns-clause-part c =
     let mid = c.masked.new.graph in
     let s = c.args.state.now in
     let bits = of_one old mid c.masked.ensures.grown s c.requires.state s.dp c.in_ok-bits.bits (λ m. m.regs.dp) (λ n. bit_and n 15)
-        (dp_part old s c.requires.state) c.in_ok-bits.ensures.value c.in_ok-bits.ensures.inputs in
+    (dp_part old s c.requires.state) c.in_ok-bits.ensures.value c.in_ok-bits.ensures.inputs in
     from_two _ _ _ c.equals.result
     (λ id. low_equal mid c.equals.new.graph c.equals.ensures.grown s (IsSymState-kept old mid c.masked.ensures.grown s c.requires.state)
     c.in_ok-bits.bits id (λ m. m.regs.dp) c.args.low bits)

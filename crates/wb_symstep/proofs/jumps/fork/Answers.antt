@@ -1,4 +1,3 @@
-use Rattle.std.proofs.Common.{sym}
 use Rattle.wb_symstep.proofs.Jumping.{two_ways}
 use Rattle.wb_symstep.proofs.jumps.fork.Goals as goal
 

@@ -29,7 +29,9 @@ returns-in-None-clause-forks c =
     let s = c.args.state.now in
     let says = c.in_ok-says.says in
     from_one _ _ c.fork.result
-    (λ r h spare. h g (Jp c.args.cond c.args.na spare)
-    (c.requires.terms, says_taken g s c.args.cond says c.in_ok-says.ensures.part,
-    unknown g says.number c.bit_at.result c.bit_at.ensures.node c.in-None.ensures.none))
+    (λ r h spare. h g (Jp c.args.cond c.args.na spare) (
+      c.requires.terms,
+      says_taken g s c.args.cond says c.in_ok-says.ensures.part,
+      unknown g says.number c.bit_at.result c.bit_at.ensures.node c.in-None.ensures.none,
+    ))
     c.fork.ensures.forks

@@ -1,4 +1,4 @@
-use Rattle.std.proofs.Common.{ℕ, sym, subst, lit<, arith}
+use Rattle.std.proofs.Common.{ℕ, sym, subst, arith}
 use Rattle.std.specs.Prelude.{IfOk}
 use Rattle.wb_word.specs.declared.codes.Dst.{Dst}
 use Rattle.wb_machine.specs.State.{State}

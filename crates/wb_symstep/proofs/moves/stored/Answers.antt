@@ -1,6 +1,3 @@
-use Rattle.std.proofs.Common.{List, subst}
-use Rattle.wb_term.specs.declared.nodes.WordId.{WordId}
-use Rattle.wb_term.specs.Values.{IsWord}
 use Rattle.wb_symstep.proofs.Storing.{written}
 use Rattle.wb_symstep.proofs.moves.stored.Goals as goal
 

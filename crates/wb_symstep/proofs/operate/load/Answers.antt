@@ -1,12 +1,11 @@
-use Rattle.wb_machine.specs.Next.{a_after, b_after, bus_of, carried, dp_after, dp_stepped, dr_after, flags_a_after, flags_b_after, k_after, l_after, moved_dp, moved_k, moved_l, moved_ram, moved_rp, moved_sr, next_by, pc_after, ram_after, raised_by, regs_after, rp_after, rp_stepped, so_after, sp_after, sr_after, stack_after, tr_after, trb_after, worked, worked_flags}
-use Rattle.wb_word.specs.declared.codes.Acc.TheVariants as acc
+use Rattle.wb_machine.specs.Next.{a_after, b_after, carried, dp_after, dr_after, flags_a_after, flags_b_after, k_after, l_after, moved_dp, moved_rp, moved_sr, next_by, pc_after, ram_after, regs_after, rp_after, so_after, sp_after, sr_after, stack_after, tr_after, trb_after, worked, worked_flags}
 use Rattle.wb_word.specs.declared.words.Instr.TheVariants.{Ld}
 use Rattle.std.proofs.Common.{ℕ, refl}
 use Rattle.wb_machine.specs.State.{State}
 use Rattle.wb_symstep.specs.Parts.{IsPart}
 use Rattle.wb_symstep.proofs.Growth.{◌▸◌}
 use Rattle.wb_symstep.proofs.States.{IsSymState-kept}
-use Rattle.wb_symstep.proofs.Parts.{part_kept, flags_kept}
+use Rattle.wb_symstep.proofs.Parts.{part_kept}
 use Rattle.wb_symstep.proofs.Moving.{status_kept}
 use Rattle.wb_symstep.proofs.Reading.{a_part, b_part, flags_a_part, flags_b_part, tr_part, trb_part, dr_part, so_part}
 use Rattle.wb_symstep.proofs.operate.load.Goals as goal

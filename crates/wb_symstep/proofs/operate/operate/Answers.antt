@@ -1,4 +1,4 @@
-use Rattle.wb_machine.specs.Next.{a_after, b_after, bus_of, carried, dp_after, dp_stepped, dr_after, flags_a_after, flags_b_after, k_after, l_after, moved_dp, moved_k, moved_l, moved_ram, moved_rp, moved_sr, next_by, pc_after, ram_after, raised_by, regs_after, rp_after, rp_stepped, so_after, sp_after, sr_after, stack_after, tr_after, trb_after, worked, worked_flags}
+use Rattle.wb_machine.specs.Next.{a_after, b_after, bus_of, carried, dp_after, dp_stepped, dr_after, flags_a_after, flags_b_after, k_after, l_after, moved_dp, moved_rp, moved_sr, next_by, pc_after, ram_after, raised_by, regs_after, rp_after, rp_stepped, so_after, sp_after, sr_after, stack_after, tr_after, trb_after, worked, worked_flags}
 use Rattle.wb_word.specs.declared.codes.Acc.TheVariants as acc
 use Rattle.wb_word.specs.declared.words.Instr.TheVariants.{Op}
 use Rattle.std.proofs.Common.{refl}

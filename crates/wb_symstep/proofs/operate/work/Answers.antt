@@ -1,5 +1,4 @@
-use Rattle.wb_machine.specs.Next.{accumulator, bus_of, computed, computed_flags, flags_of, operand, other, worked, worked_flags}
-use Rattle.wb_alu.specs.Operation.{alu_result, alu_flags}
+use Rattle.wb_machine.specs.Next.{bus_of, computed, computed_flags, operand, worked, worked_flags}
 use Rattle.wb_symstep.proofs.Growth.{◌▸◌}
 use Rattle.wb_symstep.proofs.States.{IsSymState-kept}
 use Rattle.wb_symstep.proofs.Parts.{part_kept}

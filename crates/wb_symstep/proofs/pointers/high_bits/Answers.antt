@@ -1,4 +1,4 @@
-use Rattle.std.proofs.Common.{◌≡◌, ℕ, ◌+◌, ◌*◌, ◌∙◌, ap, bit_and, bit_xor}
+use Rattle.std.proofs.Common.{ℕ, ◌∙◌, ap, bit_and, bit_xor}
 use Rattle.wb_term.specs.Values.{word_value}
 use Rattle.wb_symstep.proofs.BitLaws.{turned}
 use Rattle.wb_symstep.proofs.Meanings.{means}

@@ -1,4 +1,3 @@
-use Rattle.std.proofs.Common.{ap}
 use Rattle.wb_machine.specs.Next.{dp_stepped, moved_dp, moved_rp, raised_by, rp_stepped}
 use Rattle.wb_symstep.proofs.Growth.{◌▸◌}
 use Rattle.wb_symstep.proofs.States.{IsSymState-kept}

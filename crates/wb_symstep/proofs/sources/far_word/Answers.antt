@@ -13,7 +13,7 @@ returns-clause-part c =
     let s = c.args.state.now in
     let dp = dp_part old s c.requires.state in
     let far = of_one old mid c.far_pointer.ensures.grown s c.requires.state s.dp c.in_ok-far.far (λ m. m.regs.dp) far_address dp
-        c.in_ok-far.ensures.value c.in_ok-far.ensures.inputs in
+    c.in_ok-far.ensures.value c.in_ok-far.ensures.inputs in
     from_two _ _ _ c.pages_select.result
     (λ id. read mid c.pages_select.new.graph c.pages_select.ensures.grown s (IsSymState-kept old mid c.far_pointer.ensures.grown s c.requires.state)
     c.in_ok-far.far id (λ m. far_address m.regs.dp) (λ m is. far_below m.regs.dp is.regs_in.dp_in) far)
