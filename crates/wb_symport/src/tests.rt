@@ -25,12 +25,66 @@ enum Control {
 type Case = (Control, bool, u8, u16, u16, bool, bool, u16);
 
 const CASES: [Case; 6] = [
-    (Control::Known(0x0000), false, 0, 0x80, 0xCD, true, true, 0xAB5A),
-    (Control::Known(0x0000), true, 0, 0x90, 0xAB, false, false, 0x5ACD),
-    (Control::Known(0x9400), false, 0, 0x84, 0xCD, false, false, 0xAB5A),
-    (Control::Known(0x0400), true, 0, 0x94, 0xCD, false, true, 0xAB5A),
-    (Control::Written, true, 0x64, 0xF4, 0xCD, false, true, 0xAB5A),
-    (Control::Written, true, 0x90, 0x90, 0xAB, false, false, 0x5ACD),
+    (
+        Control::Known(0x0000),
+        false,
+        0,
+        0x80,
+        0xCD,
+        true,
+        true,
+        0xAB5A,
+    ),
+    (
+        Control::Known(0x0000),
+        true,
+        0,
+        0x90,
+        0xAB,
+        false,
+        false,
+        0x5ACD,
+    ),
+    (
+        Control::Known(0x9400),
+        false,
+        0,
+        0x84,
+        0xCD,
+        false,
+        false,
+        0xAB5A,
+    ),
+    (
+        Control::Known(0x0400),
+        true,
+        0,
+        0x94,
+        0xCD,
+        false,
+        true,
+        0xAB5A,
+    ),
+    (
+        Control::Written,
+        true,
+        0x64,
+        0xF4,
+        0xCD,
+        false,
+        true,
+        0xAB5A,
+    ),
+    (
+        Control::Written,
+        true,
+        0x90,
+        0x90,
+        0xAB,
+        false,
+        false,
+        0x5ACD,
+    ),
 ];
 
 fn inputs_of(rt: &HostRuntime, first: u8, second: u8) -> Result<Inputs, OutOfMemory> {
@@ -73,7 +127,12 @@ fn set_up(rt: &HostRuntime, sr: Control, drs: bool) -> Result<(Graph, SymState),
 }
 
 /// RQM, DRS and DR of the chosen state under inputs.
-fn seen(rt: &HostRuntime, graph: &Graph, stepped: &Stepped, inputs: &Inputs) -> Result<(bool, bool, u16), OutOfMemory>
+fn seen(
+    rt: &HostRuntime,
+    graph: &Graph,
+    stepped: &Stepped,
+    inputs: &Inputs,
+) -> Result<(bool, bool, u16), OutOfMemory>
     requires there { IsStepped graph.now stepped.now }
 {
     let mut scratch = Scratch::for_graph(rt.alloc(), graph)?;
@@ -89,11 +148,20 @@ fn seen(rt: &HostRuntime, graph: &Graph, stepped: &Stepped, inputs: &Inputs) -> 
         }
     };
     let _dr = graph.word_at(state.dr);
-    Ok((state.rqm, state.drs, graph.value_word(state.dr, inputs, &mut scratch)))
+    Ok((
+        state.rqm,
+        state.drs,
+        graph.value_word(state.dr, inputs, &mut scratch),
+    ))
 }
 
 /// The value of a word under inputs.
-fn value_of(rt: &HostRuntime, graph: &Graph, word: WordId, inputs: &Inputs) -> Result<u16, OutOfMemory>
+fn value_of(
+    rt: &HostRuntime,
+    graph: &Graph,
+    word: WordId,
+    inputs: &Inputs,
+) -> Result<u16, OutOfMemory>
     requires there { HasWord graph.now word }
 {
     let mut scratch = Scratch::for_graph(rt.alloc(), graph)?;
@@ -117,11 +185,19 @@ fn read_of(
     let (mut graph, state) = set_up(rt, sr, drs)?;
     let (byte, stepped) = sym_read(&mut graph, &state)?;
     let inputs = inputs_of(rt, first, 0x5A)?;
-    Ok((value_of(rt, &graph, byte, &inputs)?, seen(rt, &graph, &stepped, &inputs)?))
+    Ok((
+        value_of(rt, &graph, byte, &inputs)?,
+        seen(rt, &graph, &stepped, &inputs)?,
+    ))
 }
 
 /// What is seen after a write of the second byte.
-fn written(rt: &HostRuntime, sr: Control, drs: bool, first: u8) -> Result<(bool, bool, u16), OutOfMemory> {
+fn written(
+    rt: &HostRuntime,
+    sr: Control,
+    drs: bool,
+    first: u8,
+) -> Result<(bool, bool, u16), OutOfMemory> {
     let (mut graph, state) = set_up(rt, sr, drs)?;
     let stepped = sym_write(&mut graph, &state, 1)?;
     seen(rt, &graph, &stepped, &inputs_of(rt, first, 0x5A)?)
@@ -131,8 +207,14 @@ fn written(rt: &HostRuntime, sr: Control, drs: bool, first: u8) -> Result<(bool,
 fn accesses_go_by_the_status_register(rt: HostRuntime) -> Result<(), Fail> {
     for (sr, drs, first, status, byte, rqm_after, drs_after, dr_after) in CASES {
         assert_eq!(rt; status_of(&rt, sr, drs, first)?, status);
-        assert_eq!(rt; read_of(&rt, sr, drs, first)?, (byte, (rqm_after, drs_after, 0xABCD)));
-        assert_eq!(rt; written(&rt, sr, drs, first)?, (rqm_after, drs_after, dr_after));
+        assert_eq!(rt;
+            read_of(&rt, sr, drs, first)?,
+            (byte, (rqm_after, drs_after, 0xABCD))
+        );
+        assert_eq!(rt;
+            written(&rt, sr, drs, first)?,
+            (rqm_after, drs_after, dr_after)
+        );
     }
     Ok(())
 }
@@ -160,7 +242,12 @@ fn only(stepped: Stepped) -> Result<SymState, Fail>
 }
 
 /// Executes an instruction that doesn't fork.
-fn stepped(graph: &mut Graph, alloc: Global, image: &Image, state: &SymState) -> Result<SymState, Fail>
+fn stepped(
+    graph: &mut Graph,
+    alloc: Global,
+    image: &Image,
+    state: &SymState,
+) -> Result<SymState, Fail>
     requires state { IsSymState graph.old state.now }
     requires words { graph.old.tables.first ≡ image.now.drom }
     requires room { length graph.old.nodes + 1200 ≤ 2 ^ 31 }
@@ -199,7 +286,10 @@ fn control_of(rt: &HostRuntime, low: u8, high: u8) -> Result<(bool, (bool, bool,
 
 #[test]
 fn a_read_forks_on_a_written_bit(rt: HostRuntime) -> Result<(), Fail> {
-    assert_eq!(rt; control_of(&rt, 0x00, 0x04)?, (true, (false, false, 0x0400)));
+    assert_eq!(rt;
+        control_of(&rt, 0x00, 0x04)?,
+        (true, (false, false, 0x0400))
+    );
     assert_eq!(rt; control_of(&rt, 0x00, 0x00)?, (true, (true, true, 0x0000)));
     Ok(())
 }
