@@ -1,10 +1,14 @@
-ghost use Rattle.std.specs.Prelude.{◌≡◌, IfOk, length};
+ghost use Rattle.std.specs.Prelude.{◌≡◌, ◌≤◌, IfOk, length};
+ghost use Rattle.wb_term.specs.Terms.{HasBit};
+ghost use Rattle.wb_symstep.specs.State.{IsSymState};
+ghost use Rattle.wb_point.specs.Shows.{SamePlace};
 
 use super::*;
 use std::test::Fail;
+use wb_make::{mk_byte, mk_const, mk_pick};
 use wb_port::{Access, Dialogue, Kind, Kinds, Power};
-use wb_term::Inputs;
-use wb_word::Side;
+use wb_term::{BitId, Graph, Inputs, Scratch};
+use wb_word::{Rom, Side};
 
 /// Inputs whose bytes are 0x50, 0x51 and so on, over a start of sevens.
 fn inputs(rt: &HostRuntime) -> Result<Inputs, OutOfMemory> {
@@ -102,5 +106,62 @@ fn questions_have_lists(rt: HostRuntime) -> Result<(), Fail> {
     let mut last = Accesses::new(rt.alloc());
     last.push(Access::Status)?;
     assert_eq!(rt; (last.len(), last.at(0)), (1, Access::Status));
+    Ok(())
+}
+
+/// Two states that differ in A, which is 1 or 2, and a bit: the lowest of the first byte.
+#[derive(Drop)]
+struct Two {
+    graph: Graph,
+    low: BitId,
+    one: SymState,
+    two: SymState,
+}
+
+fn two_states(rt: &HostRuntime) -> Result<Two, OutOfMemory>
+    ensures low { IfOk result (λ t. HasBit t.graph t.low) }
+    ensures one { IfOk result (λ t. IsSymState t.graph t.one) }
+    ensures two { IfOk result (λ t. IsSymState t.graph t.two) }
+    ensures same { IfOk result (λ t. SamePlace t.one t.two) }
+    ensures short { IfOk result (λ t. length t.graph.nodes ≤ 32) }
+{
+    let table = Rom::zero(rt.alloc())?;
+    let mut graph = Graph::new(rt.alloc(), &table, &table)?;
+    let first = mk_const(&mut graph, 1)?;
+    let second = mk_const(&mut graph, 2)?;
+    let byte = mk_byte(&mut graph, 0)?;
+    let low = mk_pick(&mut graph, byte, 0)?;
+    let mut one = SymState::reset(&mut graph, rt.alloc())?;
+    one.a = first;
+    let mut two = one.share()?;
+    two.a = second;
+    Ok(Two {
+        graph,
+        low,
+        one,
+        two,
+    })
+}
+
+/// A in the state merged of two, under inputs with this first byte.
+fn merged_a(rt: &HostRuntime, first: u8) -> Result<u16, OutOfMemory> {
+    let mut t = two_states(rt)?;
+    let state = merge(&mut t.graph, rt.alloc(), t.low, &t.one, &t.two)?;
+    let mut bytes = [0; 16];
+    bytes[0] = first;
+    let inputs = Inputs::new(rt.alloc(), &bytes, &[0; 256])?;
+    let mut scratch = Scratch::for_graph(rt.alloc(), &t.graph)?;
+    let _a = t.graph.word_at(state.a);
+    Ok(t.graph.value_word(state.a, &inputs, &mut scratch))
+}
+
+#[test]
+fn states_merge_by_a_condition(rt: HostRuntime) -> Result<(), Fail> {
+    assert_eq!(rt; merged_a(&rt, 0xFF)?, 1);
+    assert_eq!(rt; merged_a(&rt, 0xFE)?, 2);
+    let mut t = two_states(&rt)?;
+    assert_eq!(rt; same_place(&t.one, &t.two), true);
+    t.two.pc = 1;
+    assert_eq!(rt; (same_place(&t.one, &t.two), shown(&t.two).pc), (false, 1));
     Ok(())
 }
