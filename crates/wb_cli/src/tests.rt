@@ -98,96 +98,142 @@ fn check(
     Ok(())
 }
 
-#[test]
-fn runs(rt: HostRuntime) -> Result<(), Fail> {
-    let cases: [(&str, &[u8], u8, &[u8]); 9] = [
-        ("echo", GREETING, 0, GREETED),
-        ("echo", b"R\n", 1, b"EARLY 1\n"),
-        ("echo", b"", 0, b"DONE\n"),
-        ("echo", b"WAIT 1\n", 1, b"SILENT 1\n"),
-        (
-            "echo",
-            b"STEP 2\r\n S ; the status\xFF\r\nREPEAT 1\n\tW 41\nWAIT 9\nEND\nR",
-            0,
-            b"STEP 2\nS 84\nW 41\nWAIT 3\nR 41\nDONE\n",
-        ),
-        (
-            "wide",
-            b"WAIT 10\nS\nR\nS\nW 12\nWAIT 10\nS\nR\nR\n",
-            0,
-            b"WAIT 1\nS 80\nR 00\nS 90\nW 12\nWAIT 3\nS 80\nR 00\nR 12\nDONE\n",
-        ),
-        (
-            "echo",
-            b"STEP 2\r\n S ; the status\xFF\r\n\tw 00",
-            3,
-            b"LINE 3 SCRIPT\n",
-        ),
-        ("echo", b"W 4\n", 3, b"LINE 1 SCRIPT\n"),
-        ("echo", b"S\nREPEAT 2\nS\n", 3, b"LINE 2 SCRIPT\n"),
-    ];
-    for (image, script, status, report) in cases {
+/// A word, the content of `text`, the status and the report.
+type Run = (&'static str, &'static [u8], u8, &'static [u8]);
+
+/// The words of a call, its status and its report.
+type Line = (&'static [&'static str], u8, &'static [u8]);
+
+fn check_runs(rt: &impl Abort, alloc: Global, runs: &[Run]) -> Result<(), Fail> {
+    for (image, script, status, report) in runs {
+        check(rt, alloc, &["run", image, "text"], script, *status, report)?;
+    }
+    Ok(())
+}
+
+fn check_traces(rt: &impl Abort, alloc: Global, traces: &[Run]) -> Result<(), Fail> {
+    for (depth, moves, status, report) in traces {
         check(
-            &rt,
-            rt.alloc(),
-            &["run", image, "text"],
-            script,
-            status,
+            rt,
+            alloc,
+            &["trace", "echo", "slow", "text", depth],
+            moves,
+            *status,
             report,
         )?;
     }
     Ok(())
 }
 
-#[test]
-fn traces(rt: HostRuntime) -> Result<(), Fail> {
-    let cases: [(&str, &[u8], u8, &[u8]); 6] = [
-        (
-            "2",
-            b"A\nA\nU\nP\nU\nU\n",
-            0,
-            b"A 000\nA 001\nU\nP A 001 0000 0400 0000 0000\nP B 000 0000 0000 0000 0000\nU\nNOTHING\nDONE\n",
-        ),
-        ("1", b"A\nA\nU\nU\n", 0, b"A 000\nA 001\nU\nNOTHING\nDONE\n"),
-        (
-            "0004",
-            b"A\nA\nR\nB\nB\nS\nW 5A\nU\nS",
-            0,
-            b"A 000\nA 001\nBUSY B\nB 000\nB 001\nS 84 84\nW 5A\nU\nS 84 84\nDONE\n",
-        ),
-        ("256", b"A\nX\n", 3, b"LINE 2 MOVES\n"),
-        ("257", b"A\n", 2, b"BAD WORDS\n"),
-        ("00000000000000000001", b"", 0, b"DONE\n"),
-    ];
-    for (depth, moves, status, report) in cases {
-        check(
-            &rt,
-            rt.alloc(),
-            &["trace", "echo", "slow", "text", depth],
-            moves,
-            status,
-            report,
-        )?;
+fn check_sources(rt: &impl Abort, alloc: Global, sources: &[(&[u8], &[u8])]) -> Result<(), Fail> {
+    for (source, report) in sources {
+        check(rt, alloc, &["asm", "text"], source, 3, report)?;
     }
     Ok(())
 }
+
+fn check_bad_words(rt: &impl Abort, alloc: Global, lines: &[&[&str]]) -> Result<(), Fail> {
+    for line in lines {
+        check(rt, alloc, line, GREETING, 2, b"BAD WORDS\n")?;
+    }
+    Ok(())
+}
+
+fn check_lines(rt: &impl Abort, alloc: Global, lines: &[Line]) -> Result<(), Fail> {
+    for (line, status, report) in lines {
+        check(rt, alloc, line, GREETING, *status, report)?;
+    }
+    Ok(())
+}
+
+fn check_lengths(
+    rt: &impl Abort,
+    alloc: Global,
+    lines: &[(&[&str], usize, u8, &[u8])],
+) -> Result<(), Fail> {
+    for (line, length, status, report) in lines {
+        let long = repeated(alloc, b'\n', *length)?;
+        check(rt, alloc, line, &long, *status, report)?;
+    }
+    Ok(())
+}
+
+/// Calls of `run`: the image, the script, the status and the report.
+const RUNS: [Run; 9] = [
+    ("echo", GREETING, 0, GREETED),
+    ("echo", b"R\n", 1, b"EARLY 1\n"),
+    ("echo", b"", 0, b"DONE\n"),
+    ("echo", b"WAIT 1\n", 1, b"SILENT 1\n"),
+    (
+        "echo",
+        b"STEP 2\r\n S ; the status\xFF\r\nREPEAT 1\n\tW 41\nWAIT 9\nEND\nR",
+        0,
+        b"STEP 2\nS 84\nW 41\nWAIT 3\nR 41\nDONE\n",
+    ),
+    (
+        "wide",
+        b"WAIT 10\nS\nR\nS\nW 12\nWAIT 10\nS\nR\nR\n",
+        0,
+        b"WAIT 1\nS 80\nR 00\nS 90\nW 12\nWAIT 3\nS 80\nR 00\nR 12\nDONE\n",
+    ),
+    (
+        "echo",
+        b"STEP 2\r\n S ; the status\xFF\r\n\tw 00",
+        3,
+        b"LINE 3 SCRIPT\n",
+    ),
+    ("echo", b"W 4\n", 3, b"LINE 1 SCRIPT\n"),
+    ("echo", b"S\nREPEAT 2\nS\n", 3, b"LINE 2 SCRIPT\n"),
+];
+
+#[test]
+fn runs(rt: HostRuntime) -> Result<(), Fail> {
+    check_runs(&rt, rt.alloc(), &RUNS)?;
+    Ok(())
+}
+
+/// Calls of `trace`: the depth, the moves, the status and the report.
+const TRACES: [Run; 6] = [
+    (
+        "2",
+        b"A\nA\nU\nP\nU\nU\n",
+        0,
+        b"A 000\nA 001\nU\nP A 001 0000 0400 0000 0000\nP B 000 0000 0000 0000 0000\nU\nNOTHING\nDONE\n",
+    ),
+    ("1", b"A\nA\nU\nU\n", 0, b"A 000\nA 001\nU\nNOTHING\nDONE\n"),
+    (
+        "0004",
+        b"A\nA\nR\nB\nB\nS\nW 5A\nU\nS",
+        0,
+        b"A 000\nA 001\nBUSY B\nB 000\nB 001\nS 84 84\nW 5A\nU\nS 84 84\nDONE\n",
+    ),
+    ("256", b"A\nX\n", 3, b"LINE 2 MOVES\n"),
+    ("257", b"A\n", 2, b"BAD WORDS\n"),
+    ("00000000000000000001", b"", 0, b"DONE\n"),
+];
+
+#[test]
+fn traces(rt: HostRuntime) -> Result<(), Fail> {
+    check_traces(&rt, rt.alloc(), &TRACES)?;
+    Ok(())
+}
+
+/// Sources that are refused, and the reports.
+const SOURCES: [(&[u8], &[u8]); 8] = [
+    (b"nop\nld a,%", b"LINE 2 BYTE 6\n"),
+    (b"ld a,4294967296", b"LINE 1 WIDE\n"),
+    (b"nop nop", b"LINE 1 SYNTAX\n"),
+    (b"x: .equ x,5", b"LINE 1 TWICE\n"),
+    (b"jmp nowhere", b"LINE 1 UNKNOWN\n"),
+    (b"jmp 2048", b"LINE 1 RANGE\n"),
+    (b".org 5\nnop\n.org 5\nnop\n", b"LINE 4 OVERLAP\n"),
+    (b".org 2047\nnop\nnop\n", b"LINE 3 PAST\n"),
+];
 
 #[test]
 fn sources(rt: HostRuntime) -> Result<(), Fail> {
     let alloc = rt.alloc();
-    let cases: [(&[u8], &[u8]); 8] = [
-        (b"nop\nld a,%", b"LINE 2 BYTE 6\n"),
-        (b"ld a,4294967296", b"LINE 1 WIDE\n"),
-        (b"nop nop", b"LINE 1 SYNTAX\n"),
-        (b"x: .equ x,5", b"LINE 1 TWICE\n"),
-        (b"jmp nowhere", b"LINE 1 UNKNOWN\n"),
-        (b"jmp 2048", b"LINE 1 RANGE\n"),
-        (b".org 5\nnop\n.org 5\nnop\n", b"LINE 4 OVERLAP\n"),
-        (b".org 2047\nnop\nnop\n", b"LINE 3 PAST\n"),
-    ];
-    for (source, report) in cases {
-        check(&rt, alloc, &["asm", "text"], source, 3, report)?;
-    }
+    check_sources(&rt, alloc, &SOURCES)?;
     let source = b"jmp there\nnop\nthere: ld a,0x1234\n";
     let mut sink = MemSink::with_room(alloc, 10_000)?;
     let answer = command(
@@ -224,90 +270,89 @@ fn listing(rt: HostRuntime) -> Result<(), Fail> {
     Ok(())
 }
 
+/// Words without a plan.
+const BAD_WORDS: [&[&str]; 22] = [
+    &[],
+    &["run", "a"],
+    &["compare", "a", "b", "17", "4"],
+    &["compare", "a", "b", "2", "0"],
+    &["compare", "a", "b", "2", "4", "shape=R"],
+    &["compare", "a", "b", "2", "4", "points=9", "points=9"],
+    &["compare", "a", "b", "2", "4", "speed=1"],
+    &["run", "echo", ""],
+    &["run", "", "text"],
+    &["run", "echo", "text", "text"],
+    &["RUN", "echo", "text"],
+    &["", "echo", "text"],
+    &["--help"],
+    &["asm"],
+    &["asm", ""],
+    &["dis"],
+    &["dis", ""],
+    &["dis", "echo", "echo"],
+    &["trace", "echo", "slow", "text"],
+    &["trace", "echo", "slow", "text", "0"],
+    &["trace", "echo", "slow", "text", "+1"],
+    &["trace", "echo", "slow", "text", "000000000000000000001"],
+];
+
 /// Lines that have no plan.
 #[test]
 fn bad_words(rt: HostRuntime) -> Result<(), Fail> {
-    let cases: [&[&str]; 22] = [
-        &[],
-        &["run", "a"],
-        &["compare", "a", "b", "17", "4"],
-        &["compare", "a", "b", "2", "0"],
-        &["compare", "a", "b", "2", "4", "shape=R"],
-        &["compare", "a", "b", "2", "4", "points=9", "points=9"],
-        &["compare", "a", "b", "2", "4", "speed=1"],
-        &["run", "echo", ""],
-        &["run", "", "text"],
-        &["run", "echo", "text", "text"],
-        &["RUN", "echo", "text"],
-        &["", "echo", "text"],
-        &["--help"],
-        &["asm"],
-        &["asm", ""],
-        &["dis"],
-        &["dis", ""],
-        &["dis", "echo", "echo"],
-        &["trace", "echo", "slow", "text"],
-        &["trace", "echo", "slow", "text", "0"],
-        &["trace", "echo", "slow", "text", "+1"],
-        &["trace", "echo", "slow", "text", "000000000000000000001"],
-    ];
-    for line in cases {
-        check(&rt, rt.alloc(), line, GREETING, 2, b"BAD WORDS\n")?;
-    }
+    check_bad_words(&rt, rt.alloc(), &BAD_WORDS)?;
     Ok(())
 }
 
+/// Words, the status and the report.
+const BAD_FILES: [Line; 10] = [
+    (&["run", "shorter", "text"], 3, b"IMAGE 1 LENGTH 8191\n"),
+    (&["run", "longer", "text"], 3, b"IMAGE 1 LENGTH 8193\n"),
+    (&["run", "empty", "text"], 3, b"IMAGE 1 LENGTH 0\n"),
+    (&["run", "echo", "missing"], 6, b"READ FAULT 2\n"),
+    (&["run", "missing", "missing"], 6, b"READ FAULT 1\n"),
+    (&["run", "empty", "missing"], 6, b"READ FAULT 2\n"),
+    (&["dis", "longer"], 3, b"IMAGE 1 LENGTH 8193\n"),
+    (
+        &["trace", "echo", "shorter", "text", "1"],
+        3,
+        b"IMAGE 2 LENGTH 8191\n",
+    ),
+    (
+        &["trace", "echo", "echo", "text", "1"],
+        3,
+        b"LINE 1 MOVES\n",
+    ),
+    (
+        &["trace", "shorter", "echo", "missing", "1"],
+        6,
+        b"READ FAULT 3\n",
+    ),
+];
+
 #[test]
 fn bad_files(rt: HostRuntime) -> Result<(), Fail> {
-    let cases: [(&[&str], u8, &[u8]); 10] = [
-        (&["run", "shorter", "text"], 3, b"IMAGE 1 LENGTH 8191\n"),
-        (&["run", "longer", "text"], 3, b"IMAGE 1 LENGTH 8193\n"),
-        (&["run", "empty", "text"], 3, b"IMAGE 1 LENGTH 0\n"),
-        (&["run", "echo", "missing"], 6, b"READ FAULT 2\n"),
-        (&["run", "missing", "missing"], 6, b"READ FAULT 1\n"),
-        (&["run", "empty", "missing"], 6, b"READ FAULT 2\n"),
-        (&["dis", "longer"], 3, b"IMAGE 1 LENGTH 8193\n"),
-        (
-            &["trace", "echo", "shorter", "text", "1"],
-            3,
-            b"IMAGE 2 LENGTH 8191\n",
-        ),
-        (
-            &["trace", "echo", "echo", "text", "1"],
-            3,
-            b"LINE 1 MOVES\n",
-        ),
-        (
-            &["trace", "shorter", "echo", "missing", "1"],
-            6,
-            b"READ FAULT 3\n",
-        ),
-    ];
-    for (line, status, report) in cases {
-        check(&rt, rt.alloc(), line, GREETING, status, report)?;
-    }
+    check_lines(&rt, rt.alloc(), &BAD_FILES)?;
     Ok(())
 }
+
+/// Words, the length of `text`, the status and the report.
+const LONG_FILES: [(&[&str], usize, u8, &[u8]); 4] = [
+    (&["run", "echo", "text"], 1_048_575, 0, b"DONE\n"),
+    (&["run", "echo", "text"], 1_048_576, 0, b"DONE\n"),
+    (&["run", "echo", "text"], 1_048_577, 3, b"FILE 2 TOO LONG\n"),
+    (
+        &["run", "text", "missing"],
+        1_048_577,
+        3,
+        b"FILE 1 TOO LONG\n",
+    ),
+];
 
 /// A file of the limit is read, and one byte more is too long.
 #[test]
 fn long_files(rt: HostRuntime) -> Result<(), Fail> {
     let alloc = rt.alloc();
-    let cases: [(&[&str], usize, u8, &[u8]); 4] = [
-        (&["run", "echo", "text"], 1_048_575, 0, b"DONE\n"),
-        (&["run", "echo", "text"], 1_048_576, 0, b"DONE\n"),
-        (&["run", "echo", "text"], 1_048_577, 3, b"FILE 2 TOO LONG\n"),
-        (
-            &["run", "text", "missing"],
-            1_048_577,
-            3,
-            b"FILE 1 TOO LONG\n",
-        ),
-    ];
-    for (line, length, status, report) in cases {
-        let long = repeated(alloc, b'\n', length)?;
-        check(&rt, alloc, line, &long, status, report)?;
-    }
+    check_lengths(&rt, alloc, &LONG_FILES)?;
     Ok(())
 }
 
