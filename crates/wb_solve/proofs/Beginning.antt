@@ -13,37 +13,15 @@ use Rattle.wb_solve.specs.declared.trail.Entry.{Entry}
 use Rattle.wb_solve.specs.declared.trail.Reason.{Reason}
 use Rattle.wb_solve.specs.declared.trail.Reason.TheVariants.{Assumed, Clause}
 use Rattle.wb_solve.specs.declared.propagation.Propagation.{Propagation}
-use Rattle.wb_solve.specs.declared.loading.Loaded.{Loaded}
 use Rattle.wb_solve.specs.Descent.{IsUnitAt}
 use Rattle.wb_solve.specs.Turns.{FalsifiedAt}
 use Rattle.wb_solve.specs.Trails.{Holds, made, IsJust, AreJust, assumed_by, assumed_in}
-use Rattle.wb_solve.specs.Loading.{IsLoadedTo}
 use Rattle.wb_solve.specs.Starting.{IsAssertingTo, IsStarted}
 use Rattle.wb_solve.proofs.Lists.{get_left}
 use Rattle.wb_solve.proofs.Partials.{Below, below_assume, assume_at}
 use Rattle.wb_solve.proofs.Findings.{occurs_below}
 use Rattle.wb_solve.proofs.Trailing.{made_push, at_pushed}
 use Rattle.wb_solve.proofs.Visiting.{all_false, falsified_all, held_below}
-
-pub asserting_first : (c : Circuit) (loaded : Loaded) (s : Propagation) → IsLoadedTo c (length (clauses_of c)) loaded → s.kept.items ≡ loaded.kept.items → s.watches ≡ loaded.watches → s.trail.entries ≡ [] → s.trail.variables ≡ variables c → IsAssertingTo c 0 s
-asserting_first c loaded s is same_kept same_watches empty count = record {
-  named = λ k clause at. is.named k clause (slice_get_within (clauses_of c) k clause at) at;
-  kept_count = ap length same_kept ∙ is.kept_count;
-  list_count = ap (λ w. length w.plain) same_watches ∙ is.list_count;
-  variable_count = count;
-  kept_all = rw same_kept is.kept_all;
-  watched = rw (same_kept, same_watches) is.watched;
-  just = record { at = λ k e at. absurd (no_entry k e at) };
-  none_assumed = λ k e at r. no_entry k e at;
-  asserted_to = λ k l h. absurd (omega arith);
-  filled_to = λ k h. absurd (omega arith);
-}
-  where
-    no_entry : (k : ℕ) (e : Entry) → slice_get s.trail.entries k ≡ Some e → ⊥
-    no_entry k e at = none (ap (λ es. slice_get es k) (sym empty) ∙ at)
-      where
-        none : slice_get {X = Entry} [] k ≡ Some e → ⊥
-        none f = cc
 
 split : (j k : ℕ) → j < k + 1 → (j < k) ⊎ (j ≡ k)
 split j k h = grind arith

@@ -24,10 +24,6 @@ use Rattle.wb_solve.proofs.Resting.{running_settled}
 pub guarded_below : (kept : List Kept) (q r s : Partial) → Below r s → AreGuarded kept q r → AreGuarded kept q s
 guarded_below kept q r s below was k w at = let is = was k w at in (λ f. held_below r s w.second below (is.0 f), λ f. held_below r s w.first below (is.1 f))
 
--- the variable of an entry that makes it false
-pub assumed_entry : ℕ → Entry
-assumed_entry x = record { lit = record { var = x; neg = true }; reason = Assumed }
-
 module _ (c : Circuit) (steps : List (List Lit)) (kept : List Kept) (lists : Watchers) (old new : Track) (is : IsRunning c steps kept lists old) (x : ℕ) (grown : new.entries ≡ old.entries ++ (record { lit = record { var = x; neg = true }; reason = Assumed } ∷ [])) (same : new.variables ≡ old.variables) (guarded : AreGuarded kept (made old.entries) (made old.entries)) (first : IsFirstOpen c.inputs (made old.entries) x) where
   abbrev e : Entry
   e = record { lit = record { var = x; neg = true }; reason = Assumed }

@@ -1,5 +1,5 @@
 -- Trails that grow by entries that are no assumptions.
-use Rattle.std.proofs.Common.{◌≡◌, ℕ, ◌+◌, ◌≤◌, List, [], ◌∷◌, ◌++◌, length, take, Some, Option, None, refl, sym, ◌∙◌, ap, subst, arith, length-append, append_assoc}
+use Rattle.std.proofs.Common.{◌≡◌, ℕ, ◌+◌, ◌≤◌, List, [], ◌∷◌, ◌++◌, length, Some, Option, None, refl, sym, ◌∙◌, ap, subst, arith, length-append, append_assoc}
 use Rattle.std.proofs.lemmas.List.{append-nil}
 use Rattle.wb_solve.specs.declared.trail.Entry.{Entry}
 use Rattle.wb_solve.specs.declared.propagation.Propagation.{Propagation}
@@ -28,10 +28,6 @@ grows_longer old new grows =
 pub grows_assumed : (old new : List Entry) → Grows old new → assumed_in new ≡ assumed_in old
 grows_assumed old new grows =
     ap assumed_in grows.1 ∙ assumed_append old grows.0 ∙ ap (λ xs. assumed_in old ++ xs) grows.2 ∙ append-nil (assumed_in old)
-
-take_whole : (es : List Entry) → take (length es) es ≡ es
-take_whole [] = refl
-take_whole (e ∷ es) = ap (λ ds. e ∷ ds) (take_whole es)
 
 -- at the end of the trail all is done
 pub done_whole : (c : Circuit) (steps : List (List Lit)) (s : Propagation) (next : ℕ) → IsDoneTo c steps s next → next ≡ length s.trail.entries → IsPassed c steps s (length s.trail.entries) None

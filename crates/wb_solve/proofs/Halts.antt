@@ -1,5 +1,5 @@
 -- Where descents over one trail stand.
-use Rattle.std.proofs.Common.{◌≡◌, ℕ, ◌+◌, ◌-◌, ◌<◌, ◌≤◌, inr, true, false, List, [], ◌∷◌, ◌++◌, length, take, Option, Some, None, refl, sym, ◌∙◌, ap, subst, arith, length-append, append_assoc}
+use Rattle.std.proofs.Common.{◌≡◌, ℕ, ◌+◌, ◌-◌, ◌<◌, ◌≤◌, inr, true, false, List, [], ◌∷◌, ◌++◌, length, take, Option, Some, None, refl, sym, ◌∙◌, ap, subst, arith, length-append}
 use Rattle.std.proofs.lemmas.List.{map-append}
 use Rattle.wb_gate.specs.declared.gates.Lit.{Lit}
 use Rattle.wb_gate.specs.Circuit.{Circuit, variable}
@@ -12,7 +12,7 @@ use Rattle.wb_solve.specs.declared.decisions.Halt.TheVariants as halt
 use Rattle.wb_solve.specs.Descent.{IsFirstOpen, AreValued, clause_of}
 use Rattle.wb_solve.specs.Search.{clauses_in}
 use Rattle.wb_solve.specs.Course.{known_to}
-use Rattle.wb_solve.specs.Trails.{Track, made, assumed_by, assumed_in}
+use Rattle.wb_solve.specs.Trails.{Track, made, assumed_in}
 use Rattle.wb_solve.specs.Watching.{AreGuarded}
 use Rattle.wb_solve.specs.Propagating.{IsRunning, IsPassed, Grows}
 use Rattle.wb_solve.specs.Starting.{IsBlocked}
@@ -110,11 +110,6 @@ rests_halted c steps s is valued =
     let at_rest = subst (λ es. AreGuarded s.propagation.kept.items (made es) (made entries)) (take_whole entries) is.done.1 in
     (is.fitting, is.done.0, running_rests c steps s.propagation.kept.items s.propagation.watches s.propagation.trail is.done.0 at_rest, valued)
 
--- entries that are taken back
-pub taken_more : (entries rest all : List Entry) (e : Entry) (number : ℕ) → all ≡ (entries ++ (e ∷ [])) ++ rest → e.reason ≡ Clause number → assumed_in rest ≡ [] → Grows entries all
-taken_more entries rest all e number whole is last =
-    (e ∷ rest, whole ∙ append_assoc entries (e ∷ []) rest, ap (λ r. assumed_by e.lit r ++ assumed_in rest) is ∙ last)
-
 pub resumed : (c : Circuit) (steps : List Step) (old new : Descents) (mid : Track) (x number : ℕ) → IsResumable c steps old → IsTakenBack old.propagation.trail mid x → number ≡ length (known_to c steps) - 1 → new.propagation.kept.items ≡ old.propagation.kept.items → new.propagation.watches ≡ old.propagation.watches → new.propagation.trail.entries ≡ mid.entries ++ (record { lit = record { var = x; neg = false }; reason = Clause number } ∷ []) → new.propagation.trail.variables ≡ mid.variables → new.assumed.items ≡ take (length old.assumed.items - 1) old.assumed.items → new.marks ≡ old.marks → new.next ≡ x → IsReady c (clauses_in steps) (length mid.entries) new
 resumed c steps old new mid x number is back count same_kept same_watches grown same assumed same_marks next =
     let kept = old.propagation.kept.items in
@@ -168,10 +163,6 @@ taken_open c steps old mid x is back =
     let count = is.running.variable_count in
     let same = back.same_variables in
     (ap (made mid.entries) (sym names) ∙ still, omega arith)
-
--- a step that isn't empty comes from an assumption
-pub names_filled : (c : Circuit) (steps : List Step) (old : Descents) → IsResumable c steps old → assumed_in old.propagation.trail.entries ≡ [] → ⊥
-names_filled c steps old is none = is.filled (is.clause ∙ is.fitting.assumed ∙ ap clause_of none)
 
 pub passed_none : (c : Circuit) (steps : List (List Lit)) (s : Descents) (head : ℕ) (found : Option ℕ) → ((number : ℕ) → found ≡ Some number → ⊥) → IsPassed c steps s.propagation head found → IsPassed c steps s.propagation head None
 passed_none c steps s head (Some number) none is = absurd (none number refl)

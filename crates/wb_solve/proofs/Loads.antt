@@ -114,18 +114,3 @@ loaded_more c number old new clause kept is at named is_kept watch grown =
       where
         some_one : Some clause ≡ Some other → clause ≡ other
         some_one s = cc
-
-pub loaded_first : (c : Circuit) (loaded : Loaded) → loaded.kept.items ≡ [] → length loaded.watches.plain ≡ variables c → IsLoadedTo c 0 loaded
-loaded_first c loaded empty count = record {
-  kept_count = ap length empty;
-  list_count = count;
-  kept_all = record { each = λ k x at. absurd (none k x at) };
-  watched = record { first = λ k w at. absurd (none k (Wide w) at); second = λ k w at. absurd (none k (Wide w) at) };
-  named = λ k clause h at. absurd (omega arith);
-}
-  where
-    none : (k : ℕ) (x : Kept) → slice_get loaded.kept.items k ≡ Some x → ⊥
-    none k x at = no_item (ap (λ ks. slice_get ks k) (sym empty) ∙ at)
-      where
-        no_item : slice_get {X = Kept} [] k ≡ Some x → ⊥
-        no_item e = cc

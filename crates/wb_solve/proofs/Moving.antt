@@ -307,9 +307,6 @@ module _ (c : Circuit) (steps : List (List Lit)) (kept : List Kept) (lists : Wat
       let one = loses.shorter in
       omega arith
 
-  pub moves_below : new.second.var ≡ third.var
-  moves_below = ap (λ (m : Lit). m.var) second_is
-
 -- the same, as the code says it
 module _ (c : Circuit) (steps : List (List Lit)) (old new : Propagation) (head : ℕ) (l : Lit) (place : ℕ) (is : IsVisitingAt c steps old head l place) (number : ℕ) (w : Watched) (at_place : slice_get (watchers old.watches l) place ≡ Some number) (next : IsNextOf old.kept.items (made old.trail.entries) number l (Watches w)) where
   pub moved_below : w.second.var < length old.watches.plain

@@ -17,7 +17,7 @@ use Rattle.wb_solve.specs.Descent.{IsUnitAt}
 use Rattle.wb_solve.specs.Turns.{FalsifiedAt}
 use Rattle.wb_solve.specs.Trails.{Holds, Track, made, IsJust, AreJust}
 use Rattle.wb_solve.specs.Watching.{IsAmong, IsWide, HasIn, Watchers, watchers, AreGuarded, IsSettled, AreSettled, IsHeld, Waits, IsPair}
-use Rattle.wb_solve.specs.Propagating.{IsNext, IsNextOf, IsRunning, IsVisiting}
+use Rattle.wb_solve.specs.Propagating.{IsNext, IsRunning, IsVisiting}
 use Rattle.wb_solve.proofs.Lists.{get_left}
 use Rattle.wb_solve.proofs.Partials.{Below, below_assume, assume_at}
 use Rattle.wb_solve.proofs.Findings.{occurs_below}
@@ -127,22 +127,6 @@ module _ (c : Circuit) (steps : List (List Lit)) where
       where
         some_one : Some other ≡ Some number → other ≡ number
         some_one s = cc
-
-    -- a clause stays
-    pub visiting_stays : (number : ℕ) → slice_get (watchers lists l) place ≡ Some number → IsNextOf kept p number l Stays → IsVisiting c steps kept lists track head l (place + 1)
-    visiting_stays number at stays = record {
-      running = is.running;
-      guarded = is.guarded;
-      entry = is.entry;
-      at_head = is.at_head;
-      is_false = is.is_false;
-      done = λ j other w h found kept_is. by j other w found kept_is (split_place j h);
-    }
-      where
-        by : (j other : ℕ) (w : Watched) → slice_get (watchers lists l) j ≡ Some other → slice_get kept other ≡ Some (Wide w) → (j < place) ⊎ (j ≡ place) → IsNext p w l Stays
-        by j other w found kept_is (inl less) = is.done j other w less found kept_is
-        by j other w found kept_is (inr here) =
-            stays w (ap (slice_get kept) (sym (same_number number other (watchers lists l) j here at found)) ∙ kept_is)
 
     -- the clause of a kept one
     clause_of_kept : (number : ℕ) (w : Watched) → slice_get kept number ≡ Some (Wide w) → (clause : List Lit) × (slice_get (clauses_of c) number ≡ Some clause) × IsWide clause w
