@@ -1,5 +1,5 @@
 //! Questions that a solver answers, and oracles that lie in each way.
-ghost use Rattle.std.specs.Prelude.{◌+◌, ◌≤◌, ◌^◌, IfOk, length};
+ghost use Rattle.std.specs.Prelude.{◌+◌, ◌<◌, ◌≤◌, ◌^◌, IfOk, length};
 ghost use Rattle.wb_term.specs.Terms.{HasBit, HasWord};
 ghost use Rattle.wb_term.specs.Growth.{Grown, AddsAtMost};
 
@@ -112,36 +112,30 @@ fn the_byte_is_found(rt: HostRuntime) -> Result<(), Fail> {
     Ok(())
 }
 
-/// A byte and its half never add up to 2.
-fn impossible_sum(graph: &mut Graph, byte: WordId) -> Result<BitId, OutOfMemory>
+/// A byte and its half, which never add up to 2.
+fn odd_sum(graph: &mut Graph, byte: WordId) -> Result<WordId, OutOfMemory>
     requires byte { HasWord graph.old byte }
-    requires room { length graph.old.nodes + 5 ≤ 2 ^ 31 }
-    ensures bit { IfOk result (HasBit graph.new) }
+    requires room { length graph.old.nodes + 3 ≤ 2 ^ 31 }
+    ensures sum { IfOk result (HasWord graph.new) }
     ensures grown { Grown graph.old graph.new }
-    ensures adds { AddsAtMost graph.old graph.new 5 80 }
+    ensures adds { AddsAtMost graph.old graph.new 3 48 }
 {
     let half = graph.word(WordNode::Shr(byte, 1))?;
     let none = graph.bit(BitNode::Known(false))?;
-    let sum = graph.word(WordNode::Sum(byte, half, none))?;
-    let two = graph.word(WordNode::Const(2))?;
-    graph.bit(BitNode::Same(sum, two))
+    graph.word(WordNode::Sum(byte, half, none))
 }
 
-/// Whether a word that a bit chooses is a third.
-fn chosen_word(graph: &mut Graph, choice: BitId) -> Result<BitId, OutOfMemory>
-    requires choice { HasBit graph.old choice }
-    requires room { length graph.old.nodes + 7 ≤ 2 ^ 31 }
-    ensures bit { IfOk result (HasBit graph.new) }
+/// What hangs on two bytes.
+fn arm(graph: &mut Graph, place: u8) -> Result<WordId, OutOfMemory>
+    requires place { place < 15 }
+    requires room { length graph.old.nodes + 3 ≤ 2 ^ 31 }
+    ensures word { IfOk result (HasWord graph.new) }
     ensures grown { Grown graph.old graph.new }
-    ensures adds { AddsAtMost graph.old graph.new 7 64 }
+    ensures adds { AddsAtMost graph.old graph.new 3 16 }
 {
-    let first = graph.word(WordNode::Byte(1))?;
-    let second = graph.word(WordNode::Byte(2))?;
-    let third = graph.word(WordNode::Byte(3))?;
-    let fourth = graph.word(WordNode::Byte(4))?;
-    let other = graph.word(WordNode::Xor(third, fourth))?;
-    let chosen = graph.word(WordNode::Ite(choice, first, other))?;
-    graph.bit(BitNode::Same(chosen, second))
+    let byte = graph.word(WordNode::Byte(place))?;
+    let next = graph.word(WordNode::Byte(place + 1))?;
+    graph.word(WordNode::Xor(byte, next))
 }
 
 /// What hangs on four bytes, under a condition that no value of a fifth meets.
@@ -153,8 +147,13 @@ fn impossible_question(rt: &HostRuntime) -> Result<(Graph, BitId), OutOfMemory>
     let mut graph = Graph::new(rt.alloc(), &a, &b)?;
     let byte = graph.word(WordNode::Byte(0))?;
     let choice = graph.bit(BitNode::Pick(byte, 3))?;
-    let data = chosen_word(&mut graph, choice)?;
-    let control = impossible_sum(&mut graph, byte)?;
+    let sum = odd_sum(&mut graph, byte)?;
+    let two = graph.word(WordNode::Const(2))?;
+    let control = graph.bit(BitNode::Same(sum, two))?;
+    let first = arm(&mut graph, 1)?;
+    let second = arm(&mut graph, 3)?;
+    let chosen = graph.word(WordNode::Ite(choice, first, second))?;
+    let data = graph.bit(BitNode::Same(chosen, first))?;
     let both = graph.bit(BitNode::AndB(control, data))?;
     Ok((graph, both))
 }
