@@ -7,8 +7,8 @@ ghost use Rattle.wb_blast.specs.Operations.{on_bits, on_numbers, OperationBelow}
 ghost use Rattle.wb_blast.specs.Words.{number, AreBelow, IsNumber};
 
 use crate::entries::{Entry, and, mux, negation, or, xor};
+use crate::sharing::Sharing;
 use crate::words::Word;
-use wb_gate::Formula;
 use wb_word::OutOfMemory;
 
 /// What is done to each two bits.
@@ -22,7 +22,7 @@ pub enum Operation {
 }
 
 fn combine(
-    formula: &mut Formula,
+    formula: &mut Sharing,
     operation: Operation,
     x: Entry,
     y: Entry,
@@ -44,7 +44,7 @@ fn combine(
 
 /// Two words combined bit by bit.
 pub fn combine_words(
-    formula: &mut Formula,
+    formula: &mut Sharing,
     operation: Operation,
     x: &Word,
     y: &Word,

@@ -13,6 +13,7 @@ use crate::entries::Entry;
 use crate::meeting::{Met, walk};
 use crate::places::Place;
 use crate::rows::Rows;
+use crate::sharing::Sharing;
 use std::alloc::Global;
 use wb_gate::{Formula, GateFault, Goal, clauses_say_the_gates, inputs_decide};
 use wb_term::{BitId, Graph};
@@ -64,7 +65,7 @@ fn blast_met(
         places,
         weight: _,
     } = met;
-    let mut formula = Formula::new(alloc, places.len() as u32, limit);
+    let mut formula = Sharing::new(alloc, places.len() as u32, limit);
     let mut rows = Rows {
         places,
         slots,
@@ -80,7 +81,7 @@ fn blast_met(
         bits: _,
     } = rows;
     Ok(Many {
-        formula,
+        formula: formula.into_formula(),
         places,
         entries,
     })

@@ -9,13 +9,13 @@ ghost use Rattle.wb_blast.specs.Meeting.{IsMet};
 
 use crate::circuits::{bit_circuit, word_circuit};
 use crate::rows::Rows;
-use wb_gate::Formula;
+use crate::sharing::Sharing;
 use wb_term::{BitNode, Graph, Node, WordNode};
 use wb_word::OutOfMemory;
 
 /// Makes the row of a word node.
 fn build_word(
-    formula: &mut Formula,
+    formula: &mut Sharing,
     graph: &Graph,
     rows: &mut Rows,
     number: u32,
@@ -36,7 +36,7 @@ fn build_word(
 
 /// Makes the row of a bit node.
 fn build_bit(
-    formula: &mut Formula,
+    formula: &mut Sharing,
     graph: &Graph,
     rows: &mut Rows,
     number: u32,
@@ -55,7 +55,7 @@ fn build_bit(
 
 /// Makes the row of the node of a number, where it was met.
 fn build_node(
-    formula: &mut Formula,
+    formula: &mut Sharing,
     graph: &Graph,
     rows: &mut Rows,
     number: u32,
@@ -77,7 +77,7 @@ fn build_node(
 }
 
 /// Makes the rows of all nodes that were met.
-pub fn build(formula: &mut Formula, graph: &Graph, rows: &mut Rows) -> Result<(), OutOfMemory>
+pub fn build(formula: &mut Sharing, graph: &Graph, rows: &mut Rows) -> Result<(), OutOfMemory>
     requires ready { IsReady graph.now formula.old.limit rows.old }
     requires begun { Building graph.now rows.old formula.old.limit formula.old rows.old 0 }
     ensures { OnOk result (Building graph.now rows.old formula.old.limit formula.new rows.new (length graph.now.nodes)) }

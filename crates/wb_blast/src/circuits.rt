@@ -13,15 +13,15 @@ use crate::inputs::input_word;
 use crate::lookups::look;
 use crate::products::{high_product, low_product};
 use crate::rows::Rows;
+use crate::sharing::Sharing;
 use crate::shifts::{shifted_left, shifted_right};
 use crate::words::{Word, add_words, borrow_of, carry_of, same_words, subtract_words};
-use wb_gate::Formula;
 use wb_term::{BitNode, Graph, WordNode};
 use wb_word::OutOfMemory;
 
 /// The entries of a word node. The variables of an input node stand from the first on.
 pub fn word_circuit(
-    formula: &mut Formula,
+    formula: &mut Sharing,
     graph: &Graph,
     rows: &Rows,
     first: u32,
@@ -70,7 +70,7 @@ pub fn word_circuit(
 
 /// The entry of a bit node.
 pub fn bit_circuit(
-    formula: &mut Formula,
+    formula: &mut Sharing,
     graph: &Graph,
     rows: &Rows,
     node: BitNode,

@@ -4,7 +4,8 @@ ghost use Rattle.wb_gate.specs.Circuit.{Assignment, NamesBelow, variables, gate_
 ghost use Rattle.wb_gate.specs.Growth.{Extends};
 ghost use Rattle.wb_blast.specs.Entries.{entry_value, EntryBelow, IsEntry};
 
-use wb_gate::{Formula, Gate, GateFault, Lit};
+use crate::sharing::Sharing;
+use wb_gate::{Gate, Lit};
 use wb_word::OutOfMemory;
 
 /// What a bit is in a formula: always true, always false, or a literal.
@@ -36,22 +37,19 @@ pub fn negation(x: Entry) -> Entry
     }
 }
 
-/// Adds a gate to a formula that has room for it.
-fn gate(formula: &mut Formula, gate: Gate) -> Result<Entry, OutOfMemory>
+/// The entry of a gate, which is added where no equal one stands.
+fn gate(formula: &mut Sharing, gate: Gate) -> Result<Entry, OutOfMemory>
     requires there { NamesBelow (variables formula.old) gate }
     requires room { length formula.old.gates + 1 ≤ formula.old.limit }
     ensures means { IfOk result (λ e. IsEntry formula.new e (λ v. gate_value v gate)) }
     ensures extends { IfOk result (λ _. Extends formula.old formula.new 1) }
 {
-    match formula.add(gate) {
-        Ok(lit) => Ok(Entry::Lit(lit)),
-        Err(GateFault::OutOfMemory) => Err(OutOfMemory),
-        Err(GateFault::Full) => unreachable!(),
-    }
+    let lit = formula.add(gate)?;
+    Ok(Entry::Lit(lit))
 }
 
 /// Both.
-pub fn and(formula: &mut Formula, x: Entry, y: Entry) -> Result<Entry, OutOfMemory>
+pub fn and(formula: &mut Sharing, x: Entry, y: Entry) -> Result<Entry, OutOfMemory>
     requires x_there { EntryBelow (variables formula.old) x }
     requires y_there { EntryBelow (variables formula.old) y }
     requires room { length formula.old.gates + 1 ≤ formula.old.limit }
@@ -65,15 +63,17 @@ pub fn and(formula: &mut Formula, x: Entry, y: Entry) -> Result<Entry, OutOfMemo
     }
 }
 
-fn and_literals(formula: &mut Formula, a: Lit, b: Lit) -> Result<Entry, OutOfMemory>
+fn and_literals(formula: &mut Sharing, a: Lit, b: Lit) -> Result<Entry, OutOfMemory>
     requires a_there { a.var < variables formula.old }
     requires b_there { b.var < variables formula.old }
     requires room { length formula.old.gates + 1 ≤ formula.old.limit }
     ensures means { IfOk result (λ e. IsEntry formula.new e (λ v. lit_value v a && lit_value v b)) }
     ensures extends { IfOk result (λ _. Extends formula.old formula.new 1) }
 {
-    if a.var != b.var {
+    if a.var < b.var {
         gate(formula, Gate::And(a, b))
+    } else if b.var < a.var {
+        gate(formula, Gate::And(b, a))
     } else if a.neg == b.neg {
         Ok(Entry::Lit(a))
     } else {
@@ -82,7 +82,7 @@ fn and_literals(formula: &mut Formula, a: Lit, b: Lit) -> Result<Entry, OutOfMem
 }
 
 /// Either.
-pub fn or(formula: &mut Formula, x: Entry, y: Entry) -> Result<Entry, OutOfMemory>
+pub fn or(formula: &mut Sharing, x: Entry, y: Entry) -> Result<Entry, OutOfMemory>
     requires x_there { EntryBelow (variables formula.old) x }
     requires y_there { EntryBelow (variables formula.old) y }
     requires room { length formula.old.gates + 1 ≤ formula.old.limit }
@@ -94,7 +94,7 @@ pub fn or(formula: &mut Formula, x: Entry, y: Entry) -> Result<Entry, OutOfMemor
 }
 
 /// Just one of the two.
-pub fn xor(formula: &mut Formula, x: Entry, y: Entry) -> Result<Entry, OutOfMemory>
+pub fn xor(formula: &mut Sharing, x: Entry, y: Entry) -> Result<Entry, OutOfMemory>
     requires x_there { EntryBelow (variables formula.old) x }
     requires y_there { EntryBelow (variables formula.old) y }
     requires room { length formula.old.gates + 1 ≤ formula.old.limit }
@@ -109,7 +109,7 @@ pub fn xor(formula: &mut Formula, x: Entry, y: Entry) -> Result<Entry, OutOfMemo
     }
 }
 
-fn xor_literals(formula: &mut Formula, a: Lit, b: Lit) -> Result<Entry, OutOfMemory>
+fn xor_literals(formula: &mut Sharing, a: Lit, b: Lit) -> Result<Entry, OutOfMemory>
     requires a_there { a.var < variables formula.old }
     requires b_there { b.var < variables formula.old }
     requires room { length formula.old.gates + 1 ≤ formula.old.limit }
@@ -126,17 +126,20 @@ fn xor_literals(formula: &mut Formula, a: Lit, b: Lit) -> Result<Entry, OutOfMem
 }
 
 /// Just one of two variables.
-fn xor_variables(formula: &mut Formula, a: u32, b: u32) -> Result<Entry, OutOfMemory>
+fn xor_variables(formula: &mut Sharing, a: u32, b: u32) -> Result<Entry, OutOfMemory>
     requires a_there { a < variables formula.old }
     requires b_there { b < variables formula.old }
     requires room { length formula.old.gates + 1 ≤ formula.old.limit }
     ensures means { IfOk result (λ e. IsEntry formula.new e (λ v. xor (v a) (v b))) }
     ensures extends { IfOk result (λ _. Extends formula.old formula.new 1) }
 {
-    if a == b {
-        return Ok(Entry::F);
+    if a < b {
+        gate(formula, Gate::Xor(variable(a), variable(b)))
+    } else if b < a {
+        gate(formula, Gate::Xor(variable(b), variable(a)))
+    } else {
+        Ok(Entry::F)
     }
-    gate(formula, Gate::Xor(variable(a), variable(b)))
 }
 
 fn variable(var: u32) -> Lit
@@ -147,7 +150,7 @@ fn variable(var: u32) -> Lit
 }
 
 /// The second where the first holds, else the third.
-pub fn mux(formula: &mut Formula, c: Entry, x: Entry, y: Entry) -> Result<Entry, OutOfMemory>
+pub fn mux(formula: &mut Sharing, c: Entry, x: Entry, y: Entry) -> Result<Entry, OutOfMemory>
     requires c_there { EntryBelow (variables formula.old) c }
     requires x_there { EntryBelow (variables formula.old) x }
     requires y_there { EntryBelow (variables formula.old) y }
@@ -166,7 +169,7 @@ pub fn mux(formula: &mut Formula, c: Entry, x: Entry, y: Entry) -> Result<Entry,
     }
 }
 
-fn mux_literals(formula: &mut Formula, c: Lit, x: Lit, y: Lit) -> Result<Entry, OutOfMemory>
+fn mux_literals(formula: &mut Sharing, c: Lit, x: Lit, y: Lit) -> Result<Entry, OutOfMemory>
     requires c_there { c.var < variables formula.old }
     requires x_there { x.var < variables formula.old }
     requires y_there { y.var < variables formula.old }
@@ -174,17 +177,38 @@ fn mux_literals(formula: &mut Formula, c: Lit, x: Lit, y: Lit) -> Result<Entry, 
     ensures means { IfOk result (λ e. IsEntry formula.new e (λ v. if lit_value v c then lit_value v x else lit_value v y)) }
     ensures extends { IfOk result (λ _. Extends formula.old formula.new 1) }
 {
-    if x.var != y.var {
-        gate(formula, Gate::Mux(c, x, y))
-    } else if x.neg == y.neg {
-        Ok(Entry::Lit(x))
+    if x.var == y.var {
+        if x.neg == y.neg {
+            Ok(Entry::Lit(x))
+        } else {
+            xor_literals(formula, c, y)
+        }
+    } else if c.neg {
+        mux_gate(formula, minus(c), y, x)
     } else {
-        xor_literals(formula, c, y)
+        mux_gate(formula, c, x, y)
+    }
+}
+
+/// The gate of a choice whose first literal isn't negated.
+fn mux_gate(formula: &mut Sharing, c: Lit, x: Lit, y: Lit) -> Result<Entry, OutOfMemory>
+    requires c_there { c.var < variables formula.old }
+    requires x_there { x.var < variables formula.old }
+    requires y_there { y.var < variables formula.old }
+    requires room { length formula.old.gates + 1 ≤ formula.old.limit }
+    ensures means { IfOk result (λ e. IsEntry formula.new e (λ v. if lit_value v c then lit_value v x else lit_value v y)) }
+    ensures extends { IfOk result (λ _. Extends formula.old formula.new 1) }
+{
+    if x.neg {
+        let base = gate(formula, Gate::Mux(c, minus(x), minus(y)))?;
+        Ok(negation(base))
+    } else {
+        gate(formula, Gate::Mux(c, x, y))
     }
 }
 
 /// Two of the three at least.
-pub fn majority(formula: &mut Formula, x: Entry, y: Entry, z: Entry) -> Result<Entry, OutOfMemory>
+pub fn majority(formula: &mut Sharing, x: Entry, y: Entry, z: Entry) -> Result<Entry, OutOfMemory>
     requires x_there { EntryBelow (variables formula.old) x }
     requires y_there { EntryBelow (variables formula.old) y }
     requires z_there { EntryBelow (variables formula.old) z }
@@ -200,7 +224,7 @@ pub fn majority(formula: &mut Formula, x: Entry, y: Entry, z: Entry) -> Result<E
     }
 }
 
-fn majority_literals(formula: &mut Formula, a: Lit, b: Lit, c: Lit) -> Result<Entry, OutOfMemory>
+fn majority_literals(formula: &mut Sharing, a: Lit, b: Lit, c: Lit) -> Result<Entry, OutOfMemory>
     requires a_there { a.var < variables formula.old }
     requires b_there { b.var < variables formula.old }
     requires c_there { c.var < variables formula.old }
@@ -216,6 +240,32 @@ fn majority_literals(formula: &mut Formula, a: Lit, b: Lit, c: Lit) -> Result<En
     } else if b.var == c.var {
         Ok(Entry::Lit(if b.neg == c.neg { b } else { a }))
     } else {
-        gate(formula, Gate::Maj(a, b, c))
+        majority_gate(formula, a, b, c)
     }
+}
+
+/// Two literals, the one with the smaller variable first.
+fn in_order(a: Lit, b: Lit) -> (Lit, Lit)
+    ensures both { (v : Assignment) → (lit_value v result.0 && lit_value v result.1) ≡ (lit_value v a && lit_value v b) }
+    ensures either { (v : Assignment) → (lit_value v result.0 || lit_value v result.1) ≡ (lit_value v a || lit_value v b) }
+    ensures there { (n : ℕ) → a.var < n → b.var < n → (result.0.var < n) × (result.1.var < n) }
+{
+    if b.var < a.var { (b, a) } else { (a, b) }
+}
+
+/// The gate of the literals in order.
+fn majority_gate(formula: &mut Sharing, a: Lit, b: Lit, c: Lit) -> Result<Entry, OutOfMemory>
+    requires a_there { a.var < variables formula.old }
+    requires b_there { b.var < variables formula.old }
+    requires c_there { c.var < variables formula.old }
+    requires room { length formula.old.gates + 1 ≤ formula.old.limit }
+    ensures means { IfOk result (λ e. IsEntry formula.new e (λ v.
+        (lit_value v a && lit_value v b) || (lit_value v a && lit_value v c) || (lit_value v b && lit_value v c))) }
+    ensures extends { IfOk result (λ _. Extends formula.old formula.new 1) }
+{
+    let (first, last) = in_order(a, b);
+    let (middle, last) = in_order(last, c);
+    let (first, middle) = in_order(first, middle);
+    let entry = gate(formula, Gate::Maj(first, middle, last))?;
+    Ok(entry)
 }

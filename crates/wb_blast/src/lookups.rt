@@ -7,15 +7,15 @@ ghost use Rattle.wb_blast.specs.Words.{number, AreBelow, IsNumber};
 
 use crate::bitwise::{Operation, combine_words, constant_word};
 use crate::entries::Entry;
+use crate::sharing::Sharing;
 use crate::words::Word;
-use wb_gate::Formula;
 use wb_term::{Graph, Table};
 use wb_word::OutOfMemory;
 
 /// The word of a table at the number that the lowest bits of a word stand for, counted from a place on: a tree of
 /// choices, the highest bit at its root. Where a bit is known, one side is left out.
 pub fn look(
-    formula: &mut Formula,
+    formula: &mut Sharing,
     graph: &Graph,
     table: Table,
     x: &Word,

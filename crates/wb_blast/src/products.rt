@@ -9,9 +9,9 @@ ghost use Rattle.wb_blast.specs.Words.{number, AreBelow, IsNumber};
 
 use crate::bitwise::{Operation, combine_words, constant_word, inverted};
 use crate::entries::Entry;
+use crate::sharing::Sharing;
 use crate::shifts::shifted_left;
 use crate::words::{Word, add_words};
-use wb_gate::Formula;
 use wb_word::OutOfMemory;
 
 /// What 32 bits are, as a low and a high word.
@@ -76,7 +76,7 @@ fn complement(x: &Double) -> Double
 
 /// Two numbers and a carry.
 fn add_doubles(
-    formula: &mut Formula,
+    formula: &mut Sharing,
     x: &Double,
     y: &Double,
     c: Entry,
@@ -94,7 +94,7 @@ fn add_doubles(
 }
 
 /// The number where the entry is true, else zero.
-fn masked(formula: &mut Formula, c: Entry, x: &Double) -> Result<Double, OutOfMemory>
+fn masked(formula: &mut Sharing, c: Entry, x: &Double) -> Result<Double, OutOfMemory>
     requires c_there { EntryBelow (variables formula.old) c }
     requires x_there { IsDoubleBelow (variables formula.old) x.now }
     requires room { length formula.old.gates + 32 ≤ formula.old.limit }
@@ -109,7 +109,7 @@ fn masked(formula: &mut Formula, c: Entry, x: &Double) -> Result<Double, OutOfMe
 
 /// The sum with a row added where the entry is true.
 fn add_row(
-    formula: &mut Formula,
+    formula: &mut Sharing,
     sum: &Double,
     c: Entry,
     row: &Double,
@@ -127,7 +127,7 @@ fn add_row(
 
 /// The sum with a row subtracted where the entry is true.
 fn subtract_row(
-    formula: &mut Formula,
+    formula: &mut Sharing,
     sum: &Double,
     c: Entry,
     row: &Double,
@@ -146,7 +146,7 @@ fn subtract_row(
 
 /// Twice the signed product of two words, cut to 32 bits: a row for each bit of the second word, of which the last,
 /// that of the sign, is subtracted.
-fn multiply(formula: &mut Formula, x: &Word, y: &Word) -> Result<Double, OutOfMemory>
+fn multiply(formula: &mut Sharing, x: &Word, y: &Word) -> Result<Double, OutOfMemory>
     requires x_there { AreBelow (variables formula.old) x.now }
     requires y_there { AreBelow (variables formula.old) y.now }
     requires room { length formula.old.gates + 2048 ≤ formula.old.limit }
@@ -181,7 +181,7 @@ fn high_word(x: &Double) -> Word
 }
 
 /// Bits 15 to 0 of twice the signed product of two words.
-pub fn low_product(formula: &mut Formula, x: &Word, y: &Word) -> Result<Word, OutOfMemory>
+pub fn low_product(formula: &mut Sharing, x: &Word, y: &Word) -> Result<Word, OutOfMemory>
     requires x_there { AreBelow (variables formula.old) x.now }
     requires y_there { AreBelow (variables formula.old) y.now }
     requires room { length formula.old.gates + 2048 ≤ formula.old.limit }
@@ -193,7 +193,7 @@ pub fn low_product(formula: &mut Formula, x: &Word, y: &Word) -> Result<Word, Ou
 }
 
 /// Bits 31 to 16 of twice the signed product of two words.
-pub fn high_product(formula: &mut Formula, x: &Word, y: &Word) -> Result<Word, OutOfMemory>
+pub fn high_product(formula: &mut Sharing, x: &Word, y: &Word) -> Result<Word, OutOfMemory>
     requires x_there { AreBelow (variables formula.old) x.now }
     requires y_there { AreBelow (variables formula.old) y.now }
     requires room { length formula.old.gates + 2048 ≤ formula.old.limit }

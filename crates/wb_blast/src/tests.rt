@@ -5,9 +5,10 @@ ghost use Rattle.wb_term.specs.Terms.{Terms, HasWord, HasBit, IsWordPlaced, IsBi
 use super::*;
 use crate::bitwise::constant_word;
 use crate::entries::{and, negation, xor};
+use crate::sharing::Sharing;
 use crate::words::add_words;
 use std::test::Fail;
-use wb_gate::{Formula, Gate, GateFault, Goal, Lit};
+use wb_gate::{Gate, GateFault, Goal, Lit};
 use wb_term::{BitId, BitNode, Graph, Inputs, Scratch, Table, WordId, WordNode};
 use wb_word::{OutOfMemory, Rom};
 
@@ -40,29 +41,29 @@ fn shared_nodes_weigh_once(rt: HostRuntime) -> Result<(), Fail> {
 
 #[test]
 fn constants_make_no_gate(rt: HostRuntime) -> Result<(), Fail> {
-    let mut formula = Formula::new(rt.alloc(), 0, 48);
+    let mut formula = Sharing::new(rt.alloc(), 0, 48);
     let x = constant_word(0xFFFE);
     let y = constant_word(0x0123);
     let (sum, carry) = add_words(&mut formula, &x, &y, Entry::T)?;
     assert_eq!(rt; sum, constant_word(0x0122));
     assert_eq!(rt; carry, Entry::T);
-    assert_eq!(rt; formula.gates(), 0);
+    assert_eq!(rt; formula.into_formula().gates(), 0);
     Ok(())
 }
 
 #[test]
 fn literals_that_are_met_twice_make_no_gate(rt: HostRuntime) -> Result<(), Fail> {
-    let mut formula = Formula::new(rt.alloc(), 2, 4);
+    let mut formula = Sharing::new(rt.alloc(), 2, 4);
     let x = Entry::Lit(Lit { var: 0, neg: false });
     let y = Entry::Lit(Lit { var: 1, neg: false });
     assert_eq!(rt; and(&mut formula, x, negation(x))?, Entry::F);
     assert_eq!(rt; xor(&mut formula, x, x)?, Entry::F);
     let apart = xor(&mut formula, negation(x), y)?;
     assert_eq!(rt; apart, Entry::Lit(Lit { var: 2, neg: true }));
-    assert_eq!(rt;
-        formula.gate_at(0),
-        Gate::Xor(Lit { var: 0, neg: false }, Lit { var: 1, neg: false })
-    );
+    // Equal up to order and signs.
+    assert_eq!(rt; xor(&mut formula, y, x)?, negation(apart));
+    assert_eq!(rt; and(&mut formula, x, y)?, and(&mut formula, y, x)?);
+    assert_eq!(rt; formula.into_formula().gates(), 2);
     Ok(())
 }
 

@@ -8,7 +8,7 @@ ghost use Rattle.wb_blast.specs.Words.{number, AreBelow, IsNumber, IsSumOf};
 
 use crate::bitwise::inverted;
 use crate::entries::{Entry, majority, negation, or, xor};
-use wb_gate::Formula;
+use crate::sharing::Sharing;
 use wb_word::OutOfMemory;
 
 /// What the bits of a word are, the lowest first.
@@ -16,7 +16,7 @@ pub type Word = [Entry; 16];
 
 /// A full adder: the sum of three bits and its carry.
 fn add_bits(
-    formula: &mut Formula,
+    formula: &mut Sharing,
     x: Entry,
     y: Entry,
     z: Entry,
@@ -36,7 +36,7 @@ fn add_bits(
 
 /// Two words and a carry added: the low 16 bits, and whether the sum is over 65535.
 pub fn add_words(
-    formula: &mut Formula,
+    formula: &mut Sharing,
     x: &Word,
     y: &Word,
     c: Entry,
@@ -61,7 +61,7 @@ pub fn add_words(
 
 /// A word less another and a borrow: the low 16 bits.
 pub fn subtract_words(
-    formula: &mut Formula,
+    formula: &mut Sharing,
     x: &Word,
     y: &Word,
     c: Entry,
@@ -78,7 +78,7 @@ pub fn subtract_words(
 }
 
 /// Whether two words and a carry are over 65535.
-pub fn carry_of(formula: &mut Formula, x: &Word, y: &Word, c: Entry) -> Result<Entry, OutOfMemory>
+pub fn carry_of(formula: &mut Sharing, x: &Word, y: &Word, c: Entry) -> Result<Entry, OutOfMemory>
     requires x_there { AreBelow (variables formula.old) x.now }
     requires y_there { AreBelow (variables formula.old) y.now }
     requires c_there { EntryBelow (variables formula.old) c }
@@ -95,7 +95,7 @@ pub fn carry_of(formula: &mut Formula, x: &Word, y: &Word, c: Entry) -> Result<E
 }
 
 /// Whether a word is below another and a borrow.
-pub fn borrow_of(formula: &mut Formula, x: &Word, y: &Word, c: Entry) -> Result<Entry, OutOfMemory>
+pub fn borrow_of(formula: &mut Sharing, x: &Word, y: &Word, c: Entry) -> Result<Entry, OutOfMemory>
     requires x_there { AreBelow (variables formula.old) x.now }
     requires y_there { AreBelow (variables formula.old) y.now }
     requires c_there { EntryBelow (variables formula.old) c }
@@ -108,7 +108,7 @@ pub fn borrow_of(formula: &mut Formula, x: &Word, y: &Word, c: Entry) -> Result<
 }
 
 /// Whether two words are equal.
-pub fn same_words(formula: &mut Formula, x: &Word, y: &Word) -> Result<Entry, OutOfMemory>
+pub fn same_words(formula: &mut Sharing, x: &Word, y: &Word) -> Result<Entry, OutOfMemory>
     requires x_there { AreBelow (variables formula.old) x.now }
     requires y_there { AreBelow (variables formula.old) y.now }
     requires room { length formula.old.gates + 32 ≤ formula.old.limit }

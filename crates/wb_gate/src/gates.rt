@@ -1,7 +1,7 @@
 //! Literals, gates and goals.
 
 /// A variable, or its negation.
-#[derive(Clone, Copy, PartialEq, Eq, Debug, Default)]
+#[derive(Clone, Copy, PartialEq, Eq, Hash, Debug, Default)]
 pub struct Lit {
     pub var: u32,
     /// Whether the variable is negated.
@@ -9,7 +9,7 @@ pub struct Lit {
 }
 
 /// A gate over earlier variables.
-#[derive(Clone, Copy, PartialEq, Eq, Debug)]
+#[derive(Clone, Copy, PartialEq, Eq, Hash, Debug)]
 pub enum Gate {
     /// Both.
     And(Lit, Lit),

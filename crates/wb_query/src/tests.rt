@@ -1,17 +1,16 @@
 //! Questions that a solver answers, and oracles that lie in each way.
-ghost use Rattle.std.specs.Prelude.{◌≡◌, Bool, ℕ, false, List, None, Option, [], ◌∷◌, IfOk, ◌≤◌, ◌^◌};
-ghost use Rattle.wb_term.specs.Terms.{HasBit};
-ghost use Rattle.wb_blast.specs.Number.{IsGateNumber};
-ghost use Rattle.wb_solve.specs.declared.search.Answer.{Answer};
+ghost use Rattle.std.specs.Prelude.{◌+◌, ◌<◌, ◌≤◌, ◌^◌, IfOk, length};
+ghost use Rattle.wb_term.specs.Terms.{HasBit, HasWord};
+ghost use Rattle.wb_term.specs.Growth.{Grown, AddsAtMost};
 
 use super::*;
 use std::alloc::Global;
 use std::test::Fail;
-use wb_blast::{blast, count_gates};
-use wb_derive::{Check, CheckScratch, Clause, Derivation, Step, check};
-use wb_gate::{Formula, Gate, Lit};
-use wb_solve::{Answer, Values, solve};
-use wb_term::{BitId, BitNode, Graph, Scratch, WordNode};
+use wb_blast::{count_gates, gate_numbers_agree};
+use wb_derive::{Clause, Derivation, Step};
+use wb_gate::Formula;
+use wb_solve::{Answer, Values};
+use wb_term::{BitId, BitNode, Graph, Scratch, WordId, WordNode};
 use wb_word::{OutOfMemory, Rom};
 
 /// How an oracle lies.
@@ -29,6 +28,7 @@ enum Lie {
     Spent,
 }
 
+#[derive(Drop)]
 struct Liar {
     lie: Lie,
 }
@@ -69,4 +69,134 @@ fn empty_step(alloc: Global) -> Result<Derivation, OutOfMemory> {
         derivation.push(Step::new(alloc, clause, &[])?)?;
     }
     Ok(derivation)
+}
+
+/// A graph, and the bit that is true where byte 0 is C3.
+fn byte_question(rt: &HostRuntime) -> Result<(Graph, BitId), OutOfMemory>
+    ensures { IfOk result (λ made. HasBit made.0 made.1) }
+{
+    let a = Rom::zero(rt.alloc())?;
+    let b = Rom::zero(rt.alloc())?;
+    let mut graph = Graph::new(rt.alloc(), &a, &b)?;
+    let byte = graph.word(WordNode::Byte(0))?;
+    let wanted = graph.word(WordNode::Const(0x00C3))?;
+    let equal = graph.bit(BitNode::Same(byte, wanted))?;
+    Ok((graph, equal))
+}
+
+/// Asks, where the bit's gate number is small enough.
+fn ask_small<O: Oracle>(
+    rt: &HostRuntime,
+    graph: &Graph,
+    bit: BitId,
+    oracle: &mut O,
+) -> Result<Found, AskFault>
+    requires { HasBit graph.now bit }
+{
+    gate_numbers_agree();
+    let mut scratch = Scratch::for_graph(rt.alloc(), graph)?;
+    if count_gates(graph, bit, &mut scratch) > 1000 {
+        return Err(AskFault::OutOfMemory);
+    }
+    ask(rt.alloc(), graph, bit, oracle)
+}
+
+#[test]
+fn the_byte_is_found(rt: HostRuntime) -> Result<(), Fail> {
+    let (graph, equal) = byte_question(&rt)?;
+    let mut oracle = SolverOracle::new(1000);
+    match ask_small(&rt, &graph, equal, &mut oracle) {
+        Ok(Found::Holds(inputs)) => assert_eq!(rt; inputs.byte(0), 0xC3),
+        _ => return Err("not found".into()),
+    }
+    Ok(())
+}
+
+/// A byte and its half, which never add up to 2.
+fn odd_sum(graph: &mut Graph, byte: WordId) -> Result<WordId, OutOfMemory>
+    requires byte { HasWord graph.old byte }
+    requires room { length graph.old.nodes + 3 ≤ 2 ^ 31 }
+    ensures sum { IfOk result (HasWord graph.new) }
+    ensures grown { Grown graph.old graph.new }
+    ensures adds { AddsAtMost graph.old graph.new 3 48 }
+{
+    let half = graph.word(WordNode::Shr(byte, 1))?;
+    let none = graph.bit(BitNode::Known(false))?;
+    graph.word(WordNode::Sum(byte, half, none))
+}
+
+/// What hangs on two bytes.
+fn arm(graph: &mut Graph, place: u8) -> Result<WordId, OutOfMemory>
+    requires place { place < 15 }
+    requires room { length graph.old.nodes + 3 ≤ 2 ^ 31 }
+    ensures word { IfOk result (HasWord graph.new) }
+    ensures grown { Grown graph.old graph.new }
+    ensures adds { AddsAtMost graph.old graph.new 3 16 }
+{
+    let byte = graph.word(WordNode::Byte(place))?;
+    let next = graph.word(WordNode::Byte(place + 1))?;
+    graph.word(WordNode::Xor(byte, next))
+}
+
+/// What hangs on four bytes, under a condition that no value of a fifth meets.
+fn impossible_question(rt: &HostRuntime) -> Result<(Graph, BitId), OutOfMemory>
+    ensures { IfOk result (λ made. HasBit made.0 made.1) }
+{
+    let a = Rom::zero(rt.alloc())?;
+    let b = Rom::zero(rt.alloc())?;
+    let mut graph = Graph::new(rt.alloc(), &a, &b)?;
+    let byte = graph.word(WordNode::Byte(0))?;
+    let choice = graph.bit(BitNode::Pick(byte, 3))?;
+    let sum = odd_sum(&mut graph, byte)?;
+    let two = graph.word(WordNode::Const(2))?;
+    let control = graph.bit(BitNode::Same(sum, two))?;
+    let first = arm(&mut graph, 1)?;
+    let second = arm(&mut graph, 3)?;
+    let chosen = graph.word(WordNode::Ite(choice, first, second))?;
+    let data = graph.bit(BitNode::Same(chosen, first))?;
+    let both = graph.bit(BitNode::AndB(control, data))?;
+    Ok((graph, both))
+}
+
+#[test]
+fn control_is_decided_before_data(rt: HostRuntime) -> Result<(), Fail> {
+    let (graph, both) = impossible_question(&rt)?;
+    let mut short = SolverOracle::new(3);
+    match ask_small(&rt, &graph, both, &mut short) {
+        Err(AskFault::Spent(_, derivation)) => assert_eq!(rt; derivation.steps().len(), 3),
+        _ => return Err("not spent".into()),
+    }
+    let mut long = SolverOracle::new(256);
+    assert!(rt; matches!(ask_small(&rt, &graph, both, &mut long), Ok(Found::Never)));
+    Ok(())
+}
+
+/// What a lie looks like: whether it is values, and how many values or steps it has.
+fn shape(answer: &Answer) -> (bool, usize) {
+    match answer {
+        Answer::Sat(values) => (true, values.list().len()),
+        Answer::Unsat(derivation) | Answer::Spent(derivation) => {
+            (false, derivation.steps().len())
+        }
+    }
+}
+
+#[test]
+fn lies_are_handed_back(rt: HostRuntime) -> Result<(), Fail> {
+    let (graph, equal) = byte_question(&rt)?;
+    // Eight inputs, and seven gates that gather where the byte differs.
+    for (lie, want) in [
+        (Lie::Falsehoods, (true, 15)),
+        (Lie::NoValues, (true, 0)),
+        (Lie::NoStep, (false, 0)),
+        (Lie::EmptyStep, (false, 1)),
+        (Lie::Spent, (false, 0)),
+    ] {
+        let mut liar = Liar { lie };
+        match ask_small(&rt, &graph, equal, &mut liar) {
+            Err(AskFault::BadAnswer(_, answer)) => assert_eq!(rt; shape(&answer), want),
+            _ => return Err("not handed back".into()),
+        }
+    }
+    Ok(())
 }

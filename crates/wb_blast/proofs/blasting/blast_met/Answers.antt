@@ -1,6 +1,7 @@
-use Rattle.std.proofs.Common.{◌≡◌, refl, ap, subst, length}
+use Rattle.std.proofs.Common.{◌≡◌, refl, sym, ap, subst, length}
 use Rattle.wb_gate.specs.Circuit.{Circuit}
 use Rattle.wb_blast.specs.declared.rows.Rows.{Rows}
+use Rattle.wb_blast.specs.Blasting.{AreBlasted}
 use Rattle.wb_blast.specs.Building.{Building}
 use Rattle.wb_blast.proofs.Finals.{bits_done, all_done}
 use Rattle.wb_blast.proofs.blasting.blast_met.Goals as goal
@@ -19,5 +20,6 @@ returns c =
     let ready : Rows = record { places = c.args.met.places; slots = c.args.met.slots; words = c.new.result; bits = c.new-2.result } in
     let limit_is : c.new-formula.result.limit ≡ c.args.limit = ap (λ (x : Circuit). x.limit) c.new-formula.ensures in
     let building = subst (λ l. Building g ready l c.build.new.formula c.build.new.rows (length g.nodes)) limit_is c.in_ok-build.ensures in
-    all_done g c.args.bits.now c.args.met ready c.build.new.rows c.args.limit c.build.new.formula c.in_ok-entries.entries.items refl refl c.requires.met c.requires.within
-    building c.requires.there c.in_ok-entries.ensures
+    subst (λ (x : Circuit). AreBlasted g c.args.bits.now c.args.limit x c.build.new.rows.places.items c.in_ok-entries.entries.items) (sym c.into_formula.ensures)
+    (all_done g c.args.bits.now c.args.met ready c.build.new.rows c.args.limit c.build.new.formula c.in_ok-entries.entries.items refl refl c.requires.met c.requires.within
+        building c.requires.there c.in_ok-entries.ensures)
