@@ -8,9 +8,10 @@
 //! formulas, `meeting` the walk that meets the nodes and numbers the inputs, `building` the rows of the nodes in order
 //! of number, `circuits` the circuit of one node, `rows` what the nodes are, and `places` the places of input
 //! variables. `number` has the gate number and `laws` that there is one, `children` the numbers below a node and its
-//! weight. `sharing` has the formula in the making, in which equal gates are one. The circuits stand in `entries`, over bits, `bitwise`, bit by bit on words, `shifts`, `inputs`, the words
-//! of input variables, `words`, which add, subtract and compare, `products` and `lookups`. `specs/Blasting.antt` and
-//! `specs/Places.antt` say what a formula means, `specs/Number.antt` what the gate number is.
+//! weight. `sharing` has the formula in the making, in which equal gates are one. The circuits stand in `entries`, over
+//! bits, `bitwise`, bit by bit on words, `shifts`, `inputs`, the words of input variables, `words`, which add, subtract
+//! and compare, `products` and `lookups`. `specs/Blasting.antt` and `specs/Places.antt` say what a formula means,
+//! `specs/Number.antt` what the gate number is.
 #![tactic(auto)]
 
 mod bitwise;
