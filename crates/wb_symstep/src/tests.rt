@@ -12,7 +12,7 @@ use std::test::Fail;
 use wb_alu::Flags;
 use wb_fold::SymFlags;
 use wb_machine::{Machine, Regs};
-use wb_make::{mk_byte, mk_const, mk_or, mk_shl};
+use wb_make::{mk_byte, mk_const};
 use wb_rom::Image;
 use wb_term::{BitId, Graph, Inputs, Scratch, WordId};
 use wb_word::Side;
@@ -161,6 +161,28 @@ fn execute(
     sym_step(graph, alloc, image, Side::A, state)
 }
 
+/// The same, and a constant that no word makes, whose number is the greatest.
+fn execute_tried(
+    rt: &impl Abort,
+    graph: &mut Graph,
+    alloc: Global,
+    image: &mut Image,
+    state: &SymState,
+    k: u32,
+) -> Result<(Stepped, WordId), OutOfMemory>
+    requires state { IsSymState graph.old state.now }
+    requires words { table_words graph.old.tables (table_of graph.old.tables Side.A) ≡ image.old.drom }
+    ensures next { IfOk result (λ r. IsStepped graph.new r.0) }
+    ensures last { IfOk result (λ r. HasWord graph.new r.1) }
+    ensures state { IsSymState graph.new state.now }
+    ensures words { table_words graph.new.tables (table_of graph.new.tables Side.A) ≡ image.new.drom }
+{
+    let next = execute(rt, graph, alloc, image, state, tried(k))?;
+    assert!(rt; graph.len() < 1 << 30);
+    let last = mk_const(graph, 0xE000 + (k & 0xFFF) as u16)?;
+    Ok((next, last))
+}
+
 /// The state after the setup, from one with inputs in RAM and DR.
 fn base(
     rt: &impl Abort,
@@ -183,18 +205,15 @@ fn base(
     Ok(state)
 }
 
-/// Power-up with the first two bytes in DR, and DRS and DRC set.
+/// Power-up with the first byte in DR, and DRS and DRC set.
 fn first(graph: &mut Graph, alloc: Global) -> Result<SymState, OutOfMemory>
     requires small { length graph.old.nodes ≤ 2 ^ 20 }
     ensures state { IfOk result (IsSymState graph.new) }
     ensures grown { Grown graph.old graph.new }
 {
-    let state = SymState::power(graph, alloc)?;
-    let low = mk_byte(graph, 0)?;
-    let high = mk_byte(graph, 1)?;
-    let high = mk_shl(graph, high, 8)?;
-    let dr = mk_or(graph, high, low)?;
+    let dr = mk_byte(graph, 0)?;
     let sr = mk_const(graph, 0x0401)?;
+    let state = SymState::power(graph, alloc)?;
     Ok(SymState {
         dr,
         sr,
@@ -203,31 +222,24 @@ fn first(graph: &mut Graph, alloc: Global) -> Result<SymState, OutOfMemory>
     })
 }
 
-/// The machine under two bytes and a start, after the setup that stands in the image.
-fn case_of(
-    alloc: Global,
-    image: &Image,
-    low: u8,
-    high: u8,
-    seed: u16,
-) -> Result<Case, OutOfMemory> {
+/// The machine under a byte and a start, after the setup that stands in the image.
+fn case_of(alloc: Global, image: &Image, byte: u8, seed: u16) -> Result<Case, OutOfMemory> {
     let mut bytes = [0; 16];
-    bytes[0] = low;
-    bytes[1] = high;
+    bytes[0] = byte;
     let mut cells = [seed; 256];
     cells[0] = 0x8001;
-    cells[usize::from(low)] = 0x7FFF;
-    cells[usize::from(low | 0x40)] = 0x00C3;
+    cells[usize::from(byte)] = 0x7FFF;
+    cells[usize::from(byte | 0x40)] = 0x00C3;
     let inputs = Inputs::new(alloc, &bytes, &cells)?;
     let mut before = Machine::power(&cells);
-    before.host_set((u16::from(high) << 8) + u16::from(low), 0x1401);
+    before.host_set(u16::from(byte), 0x1401);
     for _ in SETUP {
         before.step(image);
     }
     Ok(Case {
         inputs,
         before,
-        looked: [0, low, low | 0x40, 255],
+        looked: [0, byte, byte | 0x40, 255],
     })
 }
 
@@ -283,12 +295,10 @@ fn words_do_what_the_machine_does(rt: HostRuntime) -> Result<(), Fail> {
     image.drom.set(0x2A5, 0xD0D1);
     let mut graph = Graph::new(rt.alloc(), &image.drom, &image.drom)?;
     let state = base(&rt, &mut graph, rt.alloc(), &mut image)?;
-    let one = case_of(rt.alloc(), &image, 0x5A, 0xC3, 0x1357)?;
-    let other = case_of(rt.alloc(), &image, 0xFF, 0x6D, 0xFEDC)?;
+    let one = case_of(rt.alloc(), &image, 0x5A, 0x1357)?;
+    let other = case_of(rt.alloc(), &image, 0xFF, 0xFEDC)?;
     for k in 0..COUNT {
-        let next = execute(&rt, &mut graph, rt.alloc(), &mut image, &state, tried(k))?;
-        // a constant that no word makes has the greatest number
-        let last = mk_const(&mut graph, 0xE000 + k as u16)?;
+        let (next, last) = execute_tried(&rt, &mut graph, rt.alloc(), &mut image, &state, k)?;
         check(&rt, rt.alloc(), &graph, &image, &next, last, &one, k)?;
         check(&rt, rt.alloc(), &graph, &image, &next, last, &other, k)?;
     }
@@ -297,18 +307,17 @@ fn words_do_what_the_machine_does(rt: HostRuntime) -> Result<(), Fail> {
 
 #[test]
 fn a_chip_starts_with_zeros(rt: HostRuntime) -> Result<(), Fail> {
-    let image = Image::zero(rt.alloc())?;
+    let mut image = Image::zero(rt.alloc())?;
     let mut graph = Graph::new(rt.alloc(), &image.drom, &image.drom)?;
     let state = SymState::reset(&mut graph, rt.alloc())?;
+    assert_eq!(rt; graph.len(), 3);
+    let copy = state.share()?;
     let case = Case {
         inputs: Inputs::new(rt.alloc(), &[9; 16], &[7; 256])?,
         before: Machine::reset(),
         looked: [0, 1, 128, 255],
     };
-    let last = mk_const(&mut graph, 1)?;
-    let scratch = settled(rt.alloc(), &graph, last, &case.inputs)?;
-    let copy = state.share()?;
-    compare(&rt, &graph, &copy, &case, &case.before, &scratch, 0);
-    assert_eq!(rt; graph.len(), 4, "three constants, and this test's");
+    let (next, last) = execute_tried(&rt, &mut graph, rt.alloc(), &mut image, &copy, 640)?;
+    check(&rt, rt.alloc(), &graph, &image, &next, last, &case, 640)?;
     Ok(())
 }
