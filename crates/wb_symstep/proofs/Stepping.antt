@@ -11,10 +11,11 @@ use Rattle.wb_machine.specs.State.{State, IsState}
 use Rattle.wb_machine.specs.Next.{next, next_by}
 use Rattle.wb_symstep.specs.declared.state.SymState.{SymState}
 use Rattle.wb_symstep.specs.declared.stepped.Stepped.{Stepped}
+use Rattle.wb_symstep.specs.declared.stepped.Stepped.TheVariants.{One, Fork}
 use Rattle.wb_symstep.specs.State.{StandsFor, IsSymState, StateHasOnly}
-use Rattle.wb_symstep.specs.Stepped.{chosen, SteppedHasOnly}
+use Rattle.wb_symstep.specs.Stepped.{chosen, IsStepped, SteppedHasOnly}
 use Rattle.wb_symstep.specs.Parts.{IsSteppedAfter}
-use Rattle.wb_symstep.proofs.States.{states_stay}
+use Rattle.wb_symstep.proofs.States.{states_stay, IsSymState-kept}
 
 module _ (old new : Terms) (grown : Grown old new) (s : SymState) (is : IsSymState old s) (stepped : Stepped) where
   pub stands : (image : Image) (i : Instr) → IsSteppedAfter new s stepped (next_by i image) → i ≡ instr_of (slice_index image.prog s.pc)
@@ -29,3 +30,9 @@ module _ (old new : Terms) (grown : Grown old new) (s : SymState) (is : IsSymSta
   pub inputs_stay : (step : State → State) → IsSteppedAfter new s stepped step
       → (allowed : Node → Bool) → StateHasOnly old allowed s → SteppedHasOnly new allowed stepped
   inputs_stay step h allowed o = h.only allowed ((states_stay old new grown).only allowed s is o)
+
+-- what a step gave, in a graph that grows
+pub stepped_kept : (old new : Terms) → Grown old new → (r : Stepped) → IsStepped old r → IsStepped new r
+stepped_kept old new grown (One s) h = IsSymState-kept old new grown s h
+stepped_kept old new grown (Fork c first second) h =
+    (grown.bits c h.0, IsSymState-kept old new grown first h.1, IsSymState-kept old new grown second h.2)

@@ -37,3 +37,6 @@ pub use state::SymState;
 pub use step::sym_step;
 pub use stepped::Stepped;
 pub use wb_fold::{OutOfMemory, Pages};
+
+#[cfg(test)]
+mod tests;
