@@ -1,10 +1,10 @@
 //! Gate numbers added up by hand, circuits over constants and over inputs, and the formula of each kind of node.
-ghost use Rattle.std.specs.Prelude.{◌≡◌, [], IfOk};
+ghost use Rattle.std.specs.Prelude.{◌≡◌, ◌≤◌, [], IfOk, length};
 ghost use Rattle.wb_term.specs.Terms.{Terms, HasWord, HasBit, IsWordPlaced, IsBitPlaced};
 
 use super::*;
 use crate::bitwise::constant_word;
-use crate::entries::{and, negation, xor};
+use crate::entries::{negation, xor};
 use crate::sharing::Sharing;
 use crate::words::add_words;
 use std::test::Fail;
@@ -21,19 +21,46 @@ fn empty_graph(rt: &HostRuntime) -> Result<Graph, OutOfMemory>
     Graph::new(rt.alloc(), &a, &b)
 }
 
-#[test]
-fn shared_nodes_weigh_once(rt: HostRuntime) -> Result<(), Fail> {
-    let mut graph = empty_graph(&rt)?;
-    let byte = graph.word(WordNode::Byte(0))?;
-    let mask = graph.word(WordNode::Const(0x00C3))?;
-    let both = graph.word(WordNode::And(byte, mask))?;
+/// A graph with two words and a bit of the inputs.
+fn three_nodes(rt: &HostRuntime) -> Result<(Graph, WordId, WordId, BitId), OutOfMemory>
+    ensures first { IfOk result (λ made. HasWord made.0 made.1) }
+    ensures second { IfOk result (λ made. HasWord made.0 made.2) }
+    ensures bit { IfOk result (λ made. HasBit made.0 made.3) }
+    ensures few { IfOk result (λ made. length made.0.nodes ≤ 4) }
+{
+    let mut graph = empty_graph(rt)?;
+    let byte = graph.word(WordNode::Byte(15))?;
+    let bit = graph.bit(BitNode::Pick(byte, 7))?;
+    let first = graph.word(WordNode::Cell(255))?;
+    let second = graph.word(WordNode::Cell(7))?;
+    Ok((graph, first, second, bit))
+}
+
+/// The bit that is true where two words have no bit in common.
+fn apart(rt: &HostRuntime) -> Result<(Graph, BitId), OutOfMemory>
+    ensures { IfOk result (λ made. HasBit made.0 made.1) }
+{
+    let (mut graph, x, y, _) = three_nodes(rt)?;
+    let both = graph.word(WordNode::And(x, y))?;
     let twice = graph.word(WordNode::Xor(both, both))?;
     let equal = graph.bit(BitNode::Same(both, twice))?;
+    Ok((graph, equal))
+}
+
+#[test]
+fn shared_nodes_weigh_once(rt: HostRuntime) -> Result<(), Fail> {
+    let (graph, equal) = apart(&rt)?;
     let mut scratch = Scratch::for_graph(rt.alloc(), &graph)?;
     // Same 32, Xor 16, And 16.
     assert_eq!(rt; count_gates(&graph, equal, &mut scratch), 64);
     // What an earlier count left in the scratch doesn't matter.
     assert_eq!(rt; count_gates(&graph, equal, &mut scratch), 64);
+    Ok(())
+}
+
+#[test]
+fn the_limit_is_the_gate_number(rt: HostRuntime) -> Result<(), Fail> {
+    let (graph, equal) = apart(&rt)?;
     assert!(rt; matches!(blast(rt.alloc(), &graph, equal, 63), Err(GateFault::Full)));
     assert!(rt; blast(rt.alloc(), &graph, equal, 64).is_ok());
     Ok(())
@@ -52,18 +79,16 @@ fn constants_make_no_gate(rt: HostRuntime) -> Result<(), Fail> {
 }
 
 #[test]
-fn literals_that_are_met_twice_make_no_gate(rt: HostRuntime) -> Result<(), Fail> {
-    let mut formula = Sharing::new(rt.alloc(), 2, 4);
+fn equal_gates_are_one(rt: HostRuntime) -> Result<(), Fail> {
+    let mut formula = Sharing::new(rt.alloc(), 2, 2);
     let x = Entry::Lit(Lit { var: 0, neg: false });
     let y = Entry::Lit(Lit { var: 1, neg: false });
-    assert_eq!(rt; and(&mut formula, x, negation(x))?, Entry::F);
-    assert_eq!(rt; xor(&mut formula, x, x)?, Entry::F);
     let apart = xor(&mut formula, negation(x), y)?;
     assert_eq!(rt; apart, Entry::Lit(Lit { var: 2, neg: true }));
     // Equal up to order and signs.
-    assert_eq!(rt; xor(&mut formula, y, x)?, negation(apart));
-    assert_eq!(rt; and(&mut formula, x, y)?, and(&mut formula, y, x)?);
-    assert_eq!(rt; formula.into_formula().gates(), 2);
+    let again = xor(&mut formula, y, x)?;
+    assert_eq!(rt; again, Entry::Lit(Lit { var: 2, neg: false }));
+    assert_eq!(rt; formula.into_formula().gates(), 1);
     Ok(())
 }
 
@@ -118,12 +143,20 @@ fn is_satisfied(
     })
 }
 
-#[test]
-fn a_byte_is_found(rt: HostRuntime) -> Result<(), Fail> {
-    let mut graph = empty_graph(&rt)?;
+/// The bit that is true where byte 0 is C3.
+fn byte_question(rt: &HostRuntime) -> Result<(Graph, BitId), OutOfMemory>
+    ensures { IfOk result (λ made. HasBit made.0 made.1) }
+{
+    let mut graph = empty_graph(rt)?;
     let byte = graph.word(WordNode::Byte(0))?;
     let wanted = graph.word(WordNode::Const(0x00C3))?;
     let equal = graph.bit(BitNode::Same(byte, wanted))?;
+    Ok((graph, equal))
+}
+
+#[test]
+fn a_byte_is_found(rt: HostRuntime) -> Result<(), Fail> {
+    let (graph, equal) = byte_question(&rt)?;
     let made = blast(rt.alloc(), &graph, equal, 1000)?;
     assert_eq!(rt; made.formula.inputs(), 8);
     assert_eq!(rt; made.places.first(), Some(&Place::Byte(0, 7)));
@@ -156,11 +189,7 @@ fn word_node(kind: u8, x: WordId, y: WordId, c: BitId) -> WordNode
 
 /// The bit that is true where a word node has a value.
 fn has_value(rt: &HostRuntime, kind: u8, value: u16) -> Result<Blasted, Fail> {
-    let mut graph = empty_graph(rt)?;
-    let x = graph.word(WordNode::Cell(255))?;
-    let y = graph.word(WordNode::Cell(7))?;
-    let byte = graph.word(WordNode::Byte(15))?;
-    let c = graph.bit(BitNode::Pick(byte, 7))?;
+    let (mut graph, x, y, c) = three_nodes(rt)?;
     let node = graph.word(word_node(kind, x, y, c))?;
     let known = graph.word(WordNode::Const(value))?;
     let same = graph.bit(BitNode::Same(node, known))?;
@@ -208,12 +237,8 @@ fn bit_node(kind: u8, x: WordId, y: WordId, c: BitId, d: BitId) -> BitNode
 
 /// The formula of a bit of a kind.
 fn bit_of(rt: &HostRuntime, kind: u8) -> Result<Blasted, Fail> {
-    let mut graph = empty_graph(rt)?;
-    let x = graph.word(WordNode::Cell(255))?;
-    let y = graph.word(WordNode::Cell(7))?;
-    let byte = graph.word(WordNode::Byte(15))?;
-    let c = graph.bit(BitNode::Pick(byte, 7))?;
-    let d = graph.bit(BitNode::Pick(byte, 0))?;
+    let (mut graph, x, y, c) = three_nodes(rt)?;
+    let d = graph.bit(BitNode::Pick(x, 1))?;
     let bit = graph.bit(bit_node(kind, x, y, c, d))?;
     Ok(blast(rt.alloc(), &graph, bit, 1000)?)
 }
@@ -234,12 +259,21 @@ fn bits_have_their_values(rt: HostRuntime) -> Result<(), Fail> {
     Ok(())
 }
 
-#[test]
-fn equal_bits_have_equal_entries(rt: HostRuntime) -> Result<(), Fail> {
-    let mut graph = empty_graph(&rt)?;
+/// The highest and the lowest bit of a byte.
+fn two_bits(rt: &HostRuntime) -> Result<(Graph, BitId, BitId), OutOfMemory>
+    ensures first { IfOk result (λ made. HasBit made.0 made.1) }
+    ensures second { IfOk result (λ made. HasBit made.0 made.2) }
+{
+    let mut graph = empty_graph(rt)?;
     let byte = graph.word(WordNode::Byte(3))?;
     let top = graph.bit(BitNode::Pick(byte, 7))?;
     let low = graph.bit(BitNode::Pick(byte, 0))?;
+    Ok((graph, top, low))
+}
+
+#[test]
+fn equal_bits_have_equal_entries(rt: HostRuntime) -> Result<(), Fail> {
+    let (graph, top, low) = two_bits(&rt)?;
     let many = blast_many(rt.alloc(), &graph, &[top, low, top], 0)?;
     assert_eq!(rt; many.places.len(), 8);
     let top = Entry::Lit(Lit { var: 0, neg: false });

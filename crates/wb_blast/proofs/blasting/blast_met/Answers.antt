@@ -22,4 +22,4 @@ returns c =
     let building = subst (λ l. Building g ready l c.build.new.formula c.build.new.rows (length g.nodes)) limit_is c.in_ok-build.ensures in
     subst (λ (x : Circuit). AreBlasted g c.args.bits.now c.args.limit x c.build.new.rows.places.items c.in_ok-entries.entries.items) (sym c.into_formula.ensures)
     (all_done g c.args.bits.now c.args.met ready c.build.new.rows c.args.limit c.build.new.formula c.in_ok-entries.entries.items refl refl c.requires.met c.requires.within
-        building c.requires.there c.in_ok-entries.ensures)
+    building c.requires.there c.in_ok-entries.ensures)

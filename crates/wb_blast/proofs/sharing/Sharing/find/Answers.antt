@@ -11,4 +11,4 @@ returns-then-eq c =
     let same : c.gate_at.result ≡ c.args.gate = gate_eq-same c.gate_at.result c.args.gate (sym c.eq.ensures ∙ c.if-eq.true) in
     subst (λ (k : Circuit). IsLit k (variable (c.inputs.result + number)) (λ v. gate_value v c.args.gate)) c.self.view_is
     (subst (λ n. IsLit formula (variable (n + number)) (λ v. gate_value v c.args.gate)) (sym c.inputs.ensures.value)
-        (gate_lit formula number c.args.gate (c.gate_at.ensures.gate ∙ ap Some same)))
+    (gate_lit formula number c.args.gate (c.gate_at.ensures.gate ∙ ap Some same)))
