@@ -2,3 +2,4 @@ pub mod Answered
 pub mod Bits
 pub mod Clauses
 pub mod Filled
+pub mod Growing

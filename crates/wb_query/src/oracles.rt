@@ -15,8 +15,11 @@ use wb_word::OutOfMemory;
 /// it has given.
 pub trait Oracle {
     ghost is_sound: { Self → Bool };
+
     ghost limit_of: { Self → ℕ };
+
     ghost held: { Self → Option (List Answer) };
+
     ghost given: { Self → Option ℕ };
 
     /// Whether its answers are those of the search.
@@ -56,8 +59,11 @@ impl Oracle for SolverOracle {
     ghost use Rattle.std.specs.Prelude.{true, None};
 
     ghost is_sound = { λ _. true };
+
     ghost limit_of = { λ oracle. oracle.limit };
+
     ghost held = { λ _. None };
+
     ghost given = { λ _. None };
 
     fn sound(&self) -> bool {

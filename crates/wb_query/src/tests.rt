@@ -37,8 +37,11 @@ impl Oracle for Liar {
     ghost use Rattle.std.specs.Prelude.{false, None};
 
     ghost is_sound = { λ _. false };
+
     ghost limit_of = { λ _. 0 };
+
     ghost held = { λ _. None };
+
     ghost given = { λ _. None };
 
     fn sound(&self) -> bool {

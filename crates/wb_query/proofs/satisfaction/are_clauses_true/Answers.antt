@@ -8,7 +8,7 @@ pub returns-then-not-is_clause_true : goal.returns-then-not-is_clause_true
 returns-then-not-is_clause_true c =
     let test = satisfies_clause (assigned c.args.values.now) in
     sym (not_all test (clauses_of c.args.formula.now) c.loop-number.number c.in-Some.clause.items c.in-Some.ensures.clause
-        (sym (c.if-not-is_clause_true.ensures ∙ ap test c.as_slice.ensures.value)))
+    (sym (c.if-not-is_clause_true.ensures ∙ ap test c.as_slice.ensures.value)))
 
 pub loop-number-preserved : goal.loop-number-preserved
 loop-number-preserved c =

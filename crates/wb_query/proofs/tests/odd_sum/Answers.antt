@@ -1,0 +1,5 @@
+use Rattle.wb_query.proofs.Growing.{grown_on}
+use Rattle.wb_query.proofs.tests.odd_sum.Goals as goal
+
+pub returns-clause-grown : goal.returns-clause-grown
+returns-clause-grown c = grown_on _ _ _ (grown_on _ _ _ c.word.ensures.grown c.bit.ensures.grown) c.word-2.ensures.grown
