@@ -1,0 +1,5 @@
+pub mod Forest
+pub mod Values
+pub mod Growth
+pub mod Choices
+pub mod Paths
