@@ -7,3 +7,4 @@ pub mod Branches
 pub mod Reach
 pub mod Remembered
 pub mod Walks
+pub mod Seen

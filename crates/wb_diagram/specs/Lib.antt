@@ -3,3 +3,4 @@ pub mod Values
 pub mod Growth
 pub mod Choices
 pub mod Paths
+pub mod Sizes
