@@ -2,6 +2,7 @@ ghost use Rattle.std.specs.Prelude.{IfOk};
 ghost use Rattle.wb_diagram.specs.Forest.{HasDiagram};
 
 use super::*;
+use std::alloc::Global;
 use std::test::Fail;
 
 /// A function of three diagrams, by a number.
@@ -24,6 +25,15 @@ fn made(
         2 => diagrams.xor(a, b, steps),
         3 => diagrams.not(a, steps),
         _ => diagrams.ite(a, b, c, steps),
+    }
+}
+
+fn turns_of(diagrams: &Diagrams, alloc: Global, d: Diagram) -> Result<usize, OutOfMemory>
+    requires { HasDiagram diagrams.now d }
+{
+    match diagrams.path(alloc, d, false)? {
+        Some(turns) => Ok(turns.len()),
+        None => Ok(0),
     }
 }
 
@@ -63,12 +73,9 @@ fn questions_make_no_node(rt: HostRuntime) -> Result<(), Fail> {
     assert_eq!(rt; diagrams.implies(b, both, &mut steps), Ok(false));
     assert_eq!(rt; diagrams.disjoint(both, b, &mut steps), Ok(false));
     assert_eq!(rt; diagrams.len(), 5);
-    assert_eq!(rt;
-        diagrams
-            .path(rt.alloc(), both, false)?
-            .map(|turns| turns.len()),
-        Some(2)
-    );
+    assert_eq!(rt; diagrams.size(rt.alloc(), both, 9)?, 4);
+    assert_eq!(rt; diagrams.size(rt.alloc(), both, 2)?, 2);
+    assert_eq!(rt; turns_of(&diagrams, rt.alloc(), both)?, 2);
     Ok(())
 }
 
