@@ -1,0 +1,10 @@
+pub mod Same
+pub mod Values
+pub mod Push
+pub mod Find
+pub mod Inside
+pub mod Branches
+pub mod Reach
+pub mod Remembered
+pub mod Walks
+pub mod Seen
