@@ -1,4 +1,3 @@
-pub mod WordLaws
 pub mod Growth
 pub mod SignLaws
 pub mod ShiftLaws
@@ -6,3 +5,5 @@ pub mod AluFlags
 pub mod RamLaws
 pub mod AddressLaws
 pub mod StoreLaws
+pub mod PageLaws
+pub mod MergeLaws

@@ -11,7 +11,7 @@ use Rattle.wb_term.specs.Terms.{Terms, HasWord}
 use Rattle.wb_term.specs.Values.{IsWord, word_value, bit_value}
 use Rattle.wb_term.specs.Under.{HasOnly}
 use Rattle.wb_term.specs.Growth.{Grown, AddsAtMost}
-use Rattle.wb_fold.specs.Inputs.{BringsOnly}
+use Rattle.wb_make.specs.Inputs.{BringsOnly}
 use Rattle.wb_fold.specs.declared.address.AddressBit.{AddressBit}
 use Rattle.wb_fold.specs.Ram.{word_in, HasWords, WordsHaveOnly, AreAddressBits, AddressHasOnly, address}
 use Rattle.wb_fold.proofs.Growth.{◌▸◌}

@@ -1,3 +1,3 @@
-pub mod Inputs
 pub mod Flags
 pub mod Ram
+pub mod Pages

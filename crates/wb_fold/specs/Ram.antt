@@ -35,6 +35,11 @@ abbrev pub stored : Assignment → Terms → List WordId → WordId → WordId �
 stored inputs g ram dp value k =
     if k == word_value inputs g dp % 256 then word_value inputs g value else word_value inputs g (word_in ram k)
 
+-- the value of the entry of one list where a bit is set, else that of another
+abbrev pub merged : Assignment → Terms → BitId → List WordId → List WordId → ℕ → ℕ
+merged inputs g cond one other k =
+    if bit_value inputs g cond then word_value inputs g (word_in one k) else word_value inputs g (word_in other k)
+
 -- a bit of an address and its opposite
 pub record IsAddressBit (g : Terms) (b : AddressBit) : Type 0 where
   pub set : HasBit g b.set

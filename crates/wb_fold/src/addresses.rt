@@ -9,8 +9,8 @@ ghost use Rattle.wb_term.specs.Growth.{Grown, AddsAtMost};
 ghost use Rattle.wb_fold.specs.Ram.{IsAddressBit, AreAddressBits, AddressHasOnly, address};
 
 use crate::address::AddressBit;
-use crate::bits::{mk_notb, mk_pick};
 use std::alloc::Global;
+use wb_make::{mk_notb, mk_pick};
 use wb_term::{Graph, OutOfMemory, WordId};
 
 /// The low 8 bits of a word, the highest first.

@@ -7,16 +7,13 @@ ghost use Rattle.wb_term.specs.Terms.{HasWord, HasBit};
 ghost use Rattle.wb_term.specs.Values.{IsWord, IsBit, word_value, bit_value};
 ghost use Rattle.wb_term.specs.Under.{HasOnly};
 ghost use Rattle.wb_term.specs.Growth.{Grown, AddsAtMost};
-ghost use Rattle.wb_fold.specs.Inputs.{BringsOnly};
+ghost use Rattle.wb_make.specs.Inputs.{BringsOnly};
 ghost use Rattle.wb_fold.specs.Flags.{flags_value, flag_numbers, HasFlags, IsFlags};
 
-use crate::bits::{mk_andb, mk_pick};
-use crate::comparisons::{mk_borrow, mk_carry};
 use crate::flags::SymFlags;
-use crate::leaves::{mk_const, mk_known};
 use crate::operations::other_value;
 use crate::signs::{Worked, after_arithmetic, after_other, signs_differ};
-use crate::sums::{mk_diff, mk_sum};
+use wb_make::{mk_andb, mk_borrow, mk_carry, mk_const, mk_diff, mk_known, mk_pick, mk_sum};
 use wb_term::{BitId, Graph, OutOfMemory, WordId};
 use wb_word::Alu;
 

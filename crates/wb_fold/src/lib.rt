@@ -1,37 +1,33 @@
-//! Constructors of the term graph: one for each kind of node, and what a chip needs of them.
+//! What a chip needs of the term graph beyond single nodes: an operation of its ALU with the flags, and its RAM.
 //!
-//! Each gives a node that has the value of its kind under all inputs, but a smaller one where a rule of
-//! `docs/terms.md` tells it. None brings in an input node of its own, and each adds at most one node, no heavier
-//! than its kind. `leaves` has the constants and the inputs, `words`, `sums` and `shifts` the other words, `bits`
-//! and `comparisons` the other bits.
+//! `alu` has the operation, `operations` the results that no sum gives and `signs` the flags; `ram` has the RAM of
+//! 256 words at an address of the graph, `addresses` the address's bits, `select` the tree of choices and `store`
+//! the choices of a store. The private `address` and `flags` have the types alone. The constructors of single nodes
+//! are those of `wb_make`.
 #![tactic(auto)]
 
 mod address;
 mod addresses;
 mod alu;
-mod bits;
-mod comparisons;
 mod flags;
-mod leaves;
 mod operations;
+mod page;
+mod pages;
 mod ram;
 mod select;
-mod shifts;
 mod signs;
 mod store;
-mod sums;
-mod words;
 
 pub use alu::alu_terms;
-pub use bits::{mk_andb, mk_iteb, mk_notb, mk_orb, mk_pick, mk_xorb};
-pub use comparisons::{mk_borrow, mk_carry, mk_same};
 pub use flags::SymFlags;
-pub use leaves::{mk_byte, mk_cell, mk_const, mk_known};
+pub use pages::{Pages, pages_merge, pages_select, pages_store};
 pub use ram::{ram_select, ram_store};
-pub use shifts::{mk_high, mk_look, mk_low, mk_shl, mk_shr};
-pub use sums::{mk_diff, mk_ite, mk_sum};
+pub use wb_make::{
+    mk_and, mk_andb, mk_borrow, mk_byte, mk_carry, mk_cell, mk_const, mk_diff, mk_high, mk_ite,
+    mk_iteb, mk_known, mk_look, mk_low, mk_not, mk_notb, mk_or, mk_orb, mk_pick, mk_same, mk_shl,
+    mk_shr, mk_sum, mk_xor, mk_xorb,
+};
 pub use wb_term::OutOfMemory;
-pub use words::{mk_and, mk_not, mk_or, mk_xor};
 
 #[cfg(test)]
 mod tests;

@@ -3,12 +3,9 @@ ghost use Rattle.wb_alu.specs.Operation.{alu_result, is_arithmetic, bit, cut};
 ghost use Rattle.wb_term.specs.Terms.{HasWord, HasBit};
 ghost use Rattle.wb_term.specs.Values.{IsWord, word_value, bit_value};
 ghost use Rattle.wb_term.specs.Growth.{Grown, AddsAtMost};
-ghost use Rattle.wb_fold.specs.Inputs.{BringsOnly};
+ghost use Rattle.wb_make.specs.Inputs.{BringsOnly};
 
-use crate::leaves::mk_const;
-use crate::shifts::{mk_shl, mk_shr};
-use crate::sums::mk_ite;
-use crate::words::{mk_and, mk_not, mk_or, mk_xor};
+use wb_make::{mk_and, mk_const, mk_ite, mk_not, mk_or, mk_shl, mk_shr, mk_xor};
 use wb_term::{BitId, Graph, OutOfMemory, WordId};
 use wb_word::Alu;
 

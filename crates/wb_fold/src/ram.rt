@@ -7,10 +7,10 @@ ghost use Rattle.wb_term.specs.Growth.{Grown, AddsAtMost};
 ghost use Rattle.wb_fold.specs.Ram.{HasWords, AreWords, WordsHaveOnly, selected, stored};
 
 use crate::addresses::address_bits;
-use crate::leaves::mk_known;
 use crate::select::select;
 use crate::store::store;
 use std::alloc::Global;
+use wb_make::mk_known;
 use wb_term::{Graph, OutOfMemory, WordId, WordNode};
 
 /// The word of a RAM of 256 entries at the low 8 bits of an address.

@@ -7,7 +7,7 @@ ghost use Rattle.wb_term.specs.Growth.{Grown, AddsAtMost};
 ghost use Rattle.wb_fold.specs.Ram.{word_in, HasWords, WordsHaveOnly, AreAddressBits, AddressHasOnly, address};
 
 use crate::address::AddressBit;
-use crate::sums::mk_ite;
+use wb_make::mk_ite;
 use wb_term::{Graph, OutOfMemory, WordId};
 
 /// The word at the address that the bits stand for, by a tree of choices.

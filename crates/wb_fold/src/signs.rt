@@ -7,13 +7,11 @@ ghost use Rattle.wb_term.specs.Terms.{HasWord, HasBit};
 ghost use Rattle.wb_term.specs.Values.{IsBit, word_value, bit_value};
 ghost use Rattle.wb_term.specs.Under.{HasOnly};
 ghost use Rattle.wb_term.specs.Growth.{Grown, AddsAtMost};
-ghost use Rattle.wb_fold.specs.Inputs.{BringsOnly};
+ghost use Rattle.wb_make.specs.Inputs.{BringsOnly};
 ghost use Rattle.wb_fold.specs.Flags.{flags_value, flag_numbers, HasFlags, IsFlags};
 
-use crate::bits::{mk_andb, mk_iteb, mk_notb, mk_orb, mk_pick, mk_xorb};
-use crate::comparisons::mk_same;
 use crate::flags::SymFlags;
-use crate::leaves::{mk_const, mk_known};
+use wb_make::{mk_andb, mk_const, mk_iteb, mk_known, mk_notb, mk_orb, mk_pick, mk_same, mk_xorb};
 use wb_term::{BitId, Graph, OutOfMemory, WordId};
 
 /// Whether a word is zero.

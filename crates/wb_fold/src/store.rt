@@ -8,8 +8,7 @@ ghost use Rattle.wb_term.specs.Growth.{Grown, AddsAtMost};
 ghost use Rattle.wb_fold.specs.Ram.{HasWords, IsAddressBit, AreAddressBits, AppendsStored};
 
 use crate::address::AddressBit;
-use crate::bits::mk_andb;
-use crate::sums::mk_ite;
+use wb_make::{mk_andb, mk_ite};
 use wb_term::{BitId, Graph, OutOfMemory, WordId};
 
 /// Appends the words after a store at the address that the bits stand for, which happens where `here` is set.

@@ -3,7 +3,7 @@ ghost use Rattle.wb_term.specs.declared.nodes.Node.{Node};
 ghost use Rattle.wb_term.specs.Values.{IsWord, IsBit};
 ghost use Rattle.wb_term.specs.Under.{HasOnly};
 ghost use Rattle.wb_term.specs.Growth.{Grown, AddsAtMost};
-ghost use Rattle.wb_fold.specs.Inputs.{BringsOnly};
+ghost use Rattle.wb_make.specs.Inputs.{BringsOnly};
 
 use wb_term::{BitId, BitNode, Graph, OutOfMemory, WordId, WordNode};
 

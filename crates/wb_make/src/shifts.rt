@@ -3,7 +3,7 @@ ghost use Rattle.wb_term.specs.Numbers.{cut, product};
 ghost use Rattle.wb_term.specs.Terms.{HasWord, IsKept, table_words};
 ghost use Rattle.wb_term.specs.Values.{IsWord, word_value};
 ghost use Rattle.wb_term.specs.Growth.{Grown, AddsAtMost};
-ghost use Rattle.wb_fold.specs.Inputs.{BringsOnly};
+ghost use Rattle.wb_make.specs.Inputs.{BringsOnly};
 
 use crate::leaves::mk_const;
 use wb_term::{Graph, OutOfMemory, Table, WordId, WordNode, twice_product};

@@ -2,7 +2,7 @@ ghost use Rattle.std.specs.Prelude.{◌-◌, ◌<◌, ◌^◌, bit_and, bit_or, 
 ghost use Rattle.wb_term.specs.Terms.{HasWord};
 ghost use Rattle.wb_term.specs.Values.{IsWord, word_value};
 ghost use Rattle.wb_term.specs.Growth.{Grown, AddsAtMost};
-ghost use Rattle.wb_fold.specs.Inputs.{BringsOnly};
+ghost use Rattle.wb_make.specs.Inputs.{BringsOnly};
 
 use crate::leaves::mk_const;
 use wb_term::{Graph, OutOfMemory, WordId, WordNode};

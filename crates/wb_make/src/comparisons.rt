@@ -3,7 +3,7 @@ ghost use Rattle.wb_term.specs.Numbers.{bit};
 ghost use Rattle.wb_term.specs.Terms.{HasWord, HasBit};
 ghost use Rattle.wb_term.specs.Values.{IsBit, word_value, bit_value};
 ghost use Rattle.wb_term.specs.Growth.{Grown, AddsAtMost};
-ghost use Rattle.wb_fold.specs.Inputs.{BringsOnly};
+ghost use Rattle.wb_make.specs.Inputs.{BringsOnly};
 
 use crate::leaves::mk_known;
 use wb_term::{BitId, BitNode, Graph, OutOfMemory, WordId, WordNode, borrows, carries};

@@ -3,7 +3,7 @@ ghost use Rattle.wb_term.specs.Numbers.{bit, cut, less};
 ghost use Rattle.wb_term.specs.Terms.{HasWord, HasBit};
 ghost use Rattle.wb_term.specs.Values.{IsWord, word_value, bit_value};
 ghost use Rattle.wb_term.specs.Growth.{Grown, AddsAtMost};
-ghost use Rattle.wb_fold.specs.Inputs.{BringsOnly};
+ghost use Rattle.wb_make.specs.Inputs.{BringsOnly};
 
 use crate::leaves::mk_const;
 use wb_term::{BitId, BitNode, Graph, OutOfMemory, WordId, WordNode, difference, sum};

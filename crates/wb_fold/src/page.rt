@@ -1,0 +1,7 @@
+use wb_term::WordId;
+
+/// Sixteen words of a RAM.
+#[derive(Clone, Copy)]
+pub(crate) struct Page {
+    pub(crate) cells: [WordId; 16],
+}

@@ -1,0 +1,4 @@
+pub mod State
+pub mod Stepped
+pub mod Laws
+pub mod Standing
