@@ -1,0 +1,3 @@
+pub mod Ways
+pub mod Covering
+pub mod Ending

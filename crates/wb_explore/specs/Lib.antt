@@ -1,0 +1,5 @@
+pub mod Entries
+pub mod HeldLaws
+pub mod Purses
+pub mod Runs
+pub mod Seen
