@@ -1,6 +1,12 @@
 pub mod Meanings
 pub mod Moves
 pub mod Bits
+pub mod Factors
 pub mod Lists
+pub mod Doubled
+pub mod Multiples
 pub mod Sums
 pub mod Walk
+pub mod Appended
+pub mod Owners
+pub mod Meets

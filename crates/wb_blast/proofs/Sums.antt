@@ -36,7 +36,7 @@ full_adder false true false = refl
 full_adder false false true = refl
 full_adder false false false = refl
 
-bit_few : (b : Bool) → bit b ≤ 1
+pub bit_few : (b : Bool) → bit b ≤ 1
 bit_few true = omega arith
 bit_few false = omega arith
 
@@ -57,10 +57,10 @@ number_lt v (x ∷ xs) =
     let p : 2 ^ length (x ∷ xs) ≡ 2 ^ length xs * 2 = pow-suc 2 (length xs) in
     omega (arith, rest, few, p)
 
-pow_next : (at : ℕ) → 2 ^ (at + 1) ≡ 2 ^ at * 2
+pub pow_next : (at : ℕ) → 2 ^ (at + 1) ≡ 2 ^ at * 2
 pow_next at = let one : at + 1 ≡ suc at = omega arith in ap (λ n. 2 ^ n) one ∙ pow-suc 2 at
 
-number_taken : (v : Assignment) (es : List Entry) (at : ℕ) → at < length es →
+pub number_taken : (v : Assignment) (es : List Entry) (at : ℕ) → at < length es →
     number v (take (at + 1) es) ≡ number v (take at es) + bit (entry_value v (entry_at es at)) * 2 ^ at
 number_taken v es at h =
     ap (number v) (take_more es at T h) ∙ number_push v (take at es) (entry_at es at)
@@ -111,7 +111,7 @@ added_all old new x y c sum carry in_x in_y in_sum added v o =
     ap (λ n. n + bit (entry_value v carry) * 65536) (sym (whole sum in_sum)) ∙ added.value v o
     ∙ ap₂ (λ a b. a + b + bit (entry_value v c)) (whole x in_x) (whole y in_y)
 
-number_small : (v : Assignment) (es : List Entry) → length es ≡ 16 → number v es < 65536
+pub number_small : (v : Assignment) (es : List Entry) → length es ≡ 16 → number v es < 65536
 number_small v es h = subst (λ n. number v es < 2 ^ n) h (number_lt v es)
 
 pub added_sum : (old new : Circuit) (x y : List Entry) (c : Entry) (sum : List Entry) (carry : Entry) → length x ≡ 16 → length y ≡ 16 → length sum ≡ 16 →
@@ -188,7 +188,7 @@ same_next m n P true false d h k e = grind (arith, e, h, k)
 same_next m n P false true d h k e = grind (arith, e, h, k)
 same_next m n P false false d h k e = grind (arith, e)
 
-taken_lt : (v : Assignment) (es : List Entry) (at : ℕ) → at < length es → number v (take at es) < 2 ^ at
+pub taken_lt : (v : Assignment) (es : List Entry) (at : ℕ) → at < length es → number v (take at es) < 2 ^ at
 taken_lt v es at h =
     let short : length (take at es) ≡ at = grind (arith, length-take) in
     subst (λ n. number v (take at es) < 2 ^ n) short (number_lt v (take at es))

@@ -53,7 +53,7 @@ child_under g j _ _ n (Itself c k e) at among =
 child_under g j _ _ n (Below c k d m at_k among_d u) at among =
     Below j k d m at_k among_d (child_under g j c d n u at among)
 
-child_under_any : (g : Terms) (bits : List BitId) (j c : ℕ) (n : Node) → IsUnderAny g bits c → slice_get g.nodes c ≡ Some n → IsAmong j (children n) → IsUnderAny g bits j
+pub child_under_any : (g : Terms) (bits : List BitId) (j c : ℕ) (n : Node) → IsUnderAny g bits c → slice_get g.nodes c ≡ Some n → IsAmong j (children n) → IsUnderAny g bits j
 child_under_any g bits j c n u at among =
     record { place = u.place; bit = u.bit; at = u.at; under = child_under g j c u.bit.number n u.under at among }
 

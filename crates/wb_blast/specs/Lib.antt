@@ -1,5 +1,9 @@
+pub mod Blasting
+pub mod Doubles
 pub mod Entries
+pub mod Meeting
 pub mod Number
 pub mod Operations
+pub mod Places
 pub mod Walk
 pub mod Words

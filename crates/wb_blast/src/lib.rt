@@ -12,7 +12,10 @@ mod bitwise;
 mod children;
 mod entries;
 mod inputs;
+mod meeting;
 mod number;
+mod places;
+mod products;
 mod shifts;
 #[cfg(test)]
 mod tests;
@@ -22,5 +25,6 @@ pub use bitwise::{Operation, combine_words, constant, constant_word, inverted};
 pub use entries::{Entry, and, majority, mux, negation, or, xor};
 pub use inputs::input_word;
 pub use number::count_gates;
+pub use places::Place;
 pub use shifts::{shifted_left, shifted_right};
 pub use words::{Word, add_words, borrow_of, carry_of, same_words, subtract_words};

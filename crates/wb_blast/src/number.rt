@@ -37,7 +37,7 @@ fn after(graph: &Graph, bit: BitId) -> u32
 }
 
 /// Takes the marks from the nodes below a number.
-fn clear(scratch: &mut Scratch, end: u32)
+pub fn clear(scratch: &mut Scratch, end: u32)
     requires { end ≤ length scratch.old }
     ensures covers { length scratch.new ≡ length scratch.old }
     ensures clear { (k : ℕ) → k < end → slice_index scratch.new k ≡ 0 }

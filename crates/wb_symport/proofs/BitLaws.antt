@@ -1,5 +1,5 @@
 -- Words put together from halves and bits by masks.
-use Rattle.std.proofs.Common.{◌≡◌, ℕ, ◌+◌, ◌*◌, ◌/◌, ◌%◌, ◌<◌, ◌^◌, Bool, true, false, ap, sym, ◌∙◌, refl, arith, lit<, add-zero, bit_and, bit_or}
+use Rattle.std.proofs.Common.{◌≡◌, ℕ, ◌+◌, ◌*◌, ◌/◌, ◌%◌, ◌<◌, Bool, true, false, ap, sym, ◌∙◌, refl, arith, lit<, bit_and, bit_or}
 use Rattle.std.proofs.lemmas.Nat.{and_mask, and_block, and_assoc, or_disjoint, or_shifted, shr_split, mod_below}
 use Rattle.std.proofs.lemmas.Nat.Bits.{and_high_mask}
 use lib.Bits.{and_zero_r}

@@ -1,5 +1,5 @@
 -- One growth after another.
-use Rattle.std.proofs.Common.{ℕ, ◌+◌, ◌≤◌, ◌∙◌, arith}
+use Rattle.std.proofs.Common.{◌∙◌, arith}
 use Rattle.wb_term.specs.Terms.{Terms}
 use Rattle.wb_term.specs.Growth.{Grown}
 

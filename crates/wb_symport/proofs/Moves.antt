@@ -1,12 +1,12 @@
 -- What a transfer makes of a state and of the machines for which it stands.
-use Rattle.std.proofs.Common.{◌≡◌, ℕ, ◌+◌, ◌*◌, ◌/◌, ◌%◌, ◌<◌, ◌==◌, Bool, true, false, if◌then◌else◌, ap, sym, ◌∙◌, refl, subst, arith, slice_get}
+use Rattle.std.proofs.Common.{◌≡◌, ℕ, ◌/◌, ◌%◌, ◌==◌, Bool, true, false, if◌then◌else◌, ap, sym, ◌∙◌, refl, subst, arith, slice_get}
 use Rattle.wb_term.specs.declared.nodes.WordId.{WordId}
 use Rattle.wb_term.specs.declared.nodes.BitId.{BitId}
-use Rattle.wb_term.specs.Inputs.{Assignment, IsAssignment}
+use Rattle.wb_term.specs.Inputs.{Assignment}
 use Rattle.wb_term.specs.Terms.{Terms}
-use Rattle.wb_term.specs.Values.{word_value, bit_value}
+use Rattle.wb_term.specs.Values.{word_value}
 use Rattle.wb_machine.specs.State.{State}
-use Rattle.wb_port.specs.Port.{rqm, drs, drc, status_byte, byte_read, after_read, after_write, transferred, half_of, half_replaced, ported}
+use Rattle.wb_port.specs.Port.{drs, drc, status_byte, byte_read, after_read, after_write, transferred, half_of, half_replaced, ported}
 use Rattle.wb_symstep.specs.declared.state.SymState.{SymState}
 use Rattle.wb_symstep.specs.declared.stepped.Stepped.{Stepped}
 use Rattle.wb_symstep.specs.declared.stepped.Stepped.TheVariants.{One, Fork}

@@ -1,5 +1,5 @@
 -- What an access of the host gives and leaves, for all inputs for which a state stands for a machine.
-use Rattle.std.specs.Prelude.{◌≡◌, ℕ, Bool, false, slice_get}
+use Rattle.std.specs.Prelude.{◌≡◌, ℕ, false, slice_get}
 use Rattle.wb_term.specs.declared.nodes.WordId.{WordId}
 use Rattle.wb_term.specs.declared.nodes.BitId.{BitId}
 use Rattle.wb_term.specs.Inputs.{Assignment, IsAssignment}

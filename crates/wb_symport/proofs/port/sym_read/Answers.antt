@@ -1,4 +1,4 @@
-use Rattle.std.proofs.Common.{◌≡◌, ℕ, ◌∙◌, ap, sym}
+use Rattle.std.proofs.Common.{◌∙◌, sym}
 use Rattle.wb_symport.proofs.Growth.{◌▸◌}
 use Rattle.wb_symport.proofs.Moves.{drc_told, byte_told, read_stands, forks_told}
 use Rattle.wb_symport.proofs.port.sym_read.Goals as goal
