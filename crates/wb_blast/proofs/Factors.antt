@@ -1,9 +1,9 @@
 -- The rows of a product, one after the other.
-use Rattle.std.proofs.Common.{◌≡◌, ℕ, ◌+◌, ◌-◌, ◌*◌, ◌/◌, ◌%◌, ◌^◌, ◌<◌, ◌≤◌, if◌then◌else◌, List, length, take, refl, sym, ◌∙◌, ap, ap₂, subst, arith}
+use Rattle.std.proofs.Common.{◌≡◌, ℕ, ◌+◌, ◌-◌, ◌*◌, ◌^◌, ◌<◌, if◌then◌else◌, List, length, take, refl, sym, ◌∙◌, ap, ap₂, arith}
 use Rattle.std.proofs.lemmas.List.{take_all}
-use Rattle.wb_gate.specs.Circuit.{Circuit, Assignment, variables, Obeys}
+use Rattle.wb_gate.specs.Circuit.{Circuit, Assignment, variables}
 use Rattle.wb_gate.specs.Growth.{Extends}
-use Rattle.wb_term.specs.Numbers.{bit, product}
+use Rattle.wb_term.specs.Numbers.{product}
 use Rattle.wb_blast.specs.declared.entries.Entry.{Entry}
 use Rattle.wb_blast.specs.declared.products.Double.{Double}
 use Rattle.wb_blast.specs.Doubles.{double, extended, cut_double, IsDouble, IsDoubleBelow, Multiplied}

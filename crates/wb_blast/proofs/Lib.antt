@@ -10,3 +10,8 @@ pub mod Walk
 pub mod Appended
 pub mod Owners
 pub mod Meets
+pub mod Looks
+pub mod Parts
+pub mod Builds
+pub mod Given
+pub mod Finals

@@ -11,14 +11,14 @@ use Rattle.wb_term.specs.declared.nodes.BitNode.{BitNode}
 use Rattle.wb_term.specs.declared.nodes.BitNode.TheVariants.{Known, Pick, NotB, AndB, OrB, XorB, IteB, Same, Carry, Borrow}
 use Rattle.wb_term.specs.declared.nodes.Node.{Node}
 use Rattle.wb_term.specs.declared.nodes.Node.TheVariants.{Word, Bit}
-use Rattle.wb_term.specs.Nodes.{children, word_children, bit_children, weight, word_weight, bit_weight, Each, IsAmong}
+use Rattle.wb_term.specs.Nodes.{children, word_children, bit_children, weight, word_weight, bit_weight, IsAmong}
 use Rattle.wb_term.specs.Numbers.{bit}
-use Rattle.wb_term.specs.Terms.{Terms, IsGraph, HasBit, IsPlaced, first_of, holds_bit}
+use Rattle.wb_term.specs.Terms.{Terms, IsGraph, HasBit, first_of, holds_bit}
 use Rattle.wb_term.specs.Under.{IsUnder, Itself, Below}
 use Rattle.wb_blast.specs.declared.meeting.Met.{Met}
 use Rattle.wb_blast.specs.declared.places.Place.{Place}
-use Rattle.wb_blast.specs.Meeting.{node_places, IsMet, StandsAt, EachOnce, unmet, Stacks, Meeting, HasMet, IsNewlyMet, Meets, StacksBits}
-use Rattle.wb_blast.specs.Number.{IsUnderAny, weight_at, weight_in}
+use Rattle.wb_blast.specs.Meeting.{node_places, IsMet, StandsAt, unmet, Stacks, Meeting, HasMet, IsNewlyMet, Meets, StacksBits}
+use Rattle.wb_blast.specs.Number.{weight_at, weight_in}
 use Rattle.wb_blast.proofs.Appended.{get_left, get_right, get_none, get_cases, among_cases}
 use Rattle.wb_blast.proofs.Lists.{Each-at, among_old, among_last}
 use Rattle.wb_blast.proofs.Owners.{node_places_once, same_owner, place_under, place_in_range, few_places}
@@ -223,7 +223,7 @@ meeting_new g bits old new rest after number n graph is one =
       | inr s ↦ elim (among_cases rest j number s) [ inl before ↦ inr (one.stack.stays j before) | inr e ↦ inl (subst (λ i. IsMet new.slots i) (sym e) here) ]
     ] in
     let owns : (x : ℕ) (q : Place) → slice_get new.places.items x ≡ Some q → slice_get (old.places.items ++ node_places n) x ≡ Some q =
-        λ x q e. ap (λ (ps : List Place). slice_get ps x) (sym one.places) ∙ e in
+    λ x q e. ap (λ (ps : List Place). slice_get ps x) (sym one.places) ∙ e in
     record {
       covers = ap length one.slots ∙ length-set old.slots number (p + 1) ∙ is.covers;
       roots = λ place bit e. left bit.number (is.roots place bit e);
@@ -233,13 +233,13 @@ meeting_new g bits old new rest after number n graph is one =
       ];
       sound = λ j h. elim h [
         | inl m ↦ elim (cases j m) [
-            | inl was ↦ is.sound j (inl was)
-            | inr e ↦ is.sound j (inr (among_last rest j number e))
-          ]
+          | inl was ↦ is.sound j (inl was)
+          | inr e ↦ is.sound j (inr (among_last rest j number e))
+        ]
         | inr s ↦ elim (one.stack.only j s) [
-            | inl before ↦ is.sound j (inr (among_old rest j number before))
-            | inr child ↦ child_under_any g bits j number n (is.sound number (inr (among_last rest number number refl))) one.node child
-          ]
+          | inl before ↦ is.sound j (inr (among_old rest j number before))
+          | inr child ↦ child_under_any g bits j number n (is.sound number (inr (among_last rest number number refl))) one.node child
+        ]
       ];
       stacked = λ j s. elim (one.stack.only j s) [
         | inl before ↦ is.stacked j (among_old rest j number before)
@@ -262,14 +262,14 @@ meeting_new g bits old new rest after number n graph is one =
             (let slot : slice_index new.slots k ≡ slice_index old.slots k = ap (λ (s : List ℕ). slice_index s k) one.slots ∙ get_or-set_other old.slots number k (p + 1) 0 (other k was) in
             subst (λ (ps : List Place). StandsAt ps (slice_index new.slots k - 1) (node_places m)) (sym one.places)
             (subst (λ s. StandsAt (old.places.items ++ node_places n) (s - 1) (node_places m)) (sym slot)
-                (still_stands old.places.items (node_places n) (slice_index old.slots k - 1) (node_places m) (is.numbered k m was at))))
+            (still_stands old.places.items (node_places n) (slice_index old.slots k - 1) (node_places m) (is.numbered k m was at))))
         | inr e ↦
             (let slot : slice_index new.slots k - 1 ≡ p = (let s : slice_index new.slots k ≡ p + 1 =
-                ap (λ (s : List ℕ). slice_index s k) one.slots ∙ ap (slice_index (set old.slots number (p + 1))) e ∙ get_or-set_same old.slots number (p + 1) 0 in_slots in omega (arith, s)) in
+            ap (λ (s : List ℕ). slice_index s k) one.slots ∙ ap (slice_index (set old.slots number (p + 1))) e ∙ get_or-set_same old.slots number (p + 1) 0 in_slots in omega (arith, s)) in
             subst (λ (ps : List Place). StandsAt ps (slice_index new.slots k - 1) (node_places m)) (sym one.places)
             (subst (λ s. StandsAt (old.places.items ++ node_places n) s (node_places m)) (sym slot)
-                (subst (λ (x : Node). StandsAt (old.places.items ++ node_places n) p (node_places x)) (same_node m (subst (λ i. slice_get g.nodes i ≡ Some m) e at))
-                    (λ j h. get_right old.places.items (node_places n) j))))
+            (subst (λ (x : Node). StandsAt (old.places.items ++ node_places n) p (node_places x)) (same_node m (subst (λ i. slice_get g.nodes i ≡ Some m) e at))
+            (λ j h. get_right old.places.items (node_places n) j))))
       ];
       owned = λ x q e. elim (get_cases old.places.items (node_places n) x q (owns x q e)) [
         | inl was ↦ let o = is.owned x q was in (o.0, o.1, stays o.0 o.2, o.3, o.4, o.5)
@@ -277,23 +277,23 @@ meeting_new g bits old new rest after number n graph is one =
       ];
       once = λ j k q e f. elim (get_cases old.places.items (node_places n) j q (owns j q e)) [
         | inl was ↦ elim (get_cases old.places.items (node_places n) k q (owns k q f)) [
-            | inl too ↦ is.once j k q was too
-            | inr (i, at, own) ↦ absurd (not_both g bits old rest number n graph is one j i q was own)
-          ]
+          | inl too ↦ is.once j k q was too
+          | inr (i, at, own) ↦ absurd (not_both g bits old rest number n graph is one j i q was own)
+        ]
         | inr (i, at, own) ↦ elim (get_cases old.places.items (node_places n) k q (owns k q f)) [
-            | inl too ↦ absurd (not_both g bits old rest number n graph is one k i q too own)
-            | inr (h, there, mine) ↦ (let same = node_places_once n i h q own mine in omega (arith, at, there, same))
-          ]
+          | inl too ↦ absurd (not_both g bits old rest number n graph is one k i q too own)
+          | inr (h, there, mine) ↦ (let same = node_places_once n i h q own mine in omega (arith, at, there, same))
+        ]
       ];
     } where
-  not_both : (g : Terms) (bits : List BitId) (old : Met) (rest : List ℕ) (number : ℕ) (n : Node) → IsGraph g → Meeting g bits old (rest ++ number ∷ []) →
-      IsNewlyMet g number old new rest after n → (x i : ℕ) (q : Place) → slice_get old.places.items x ≡ Some q → slice_get (node_places n) i ≡ Some q → ⊥
-  not_both g bits old rest number n graph is one x i q was own =
-      let o = is.owned x q was in
-      let same : o.1 ≡ n = same_owner o.1 n o.4 i q o.5 own in
-      let eq : o.0 ≡ number = graph.once o.0 number n (subst (λ (m : Node). slice_get g.nodes o.0 ≡ Some m) same o.3) one.node in
-      let m : IsMet old.slots number = subst (λ k. IsMet old.slots k) eq o.2 in
-      let zero = one.idle in omega (arith, m, zero)
+      not_both : (g : Terms) (bits : List BitId) (old : Met) (rest : List ℕ) (number : ℕ) (n : Node) → IsGraph g → Meeting g bits old (rest ++ number ∷ []) →
+          IsNewlyMet g number old new rest after n → (x i : ℕ) (q : Place) → slice_get old.places.items x ≡ Some q → slice_get (node_places n) i ≡ Some q → ⊥
+      not_both g bits old rest number n graph is one x i q was own =
+          let o = is.owned x q was in
+          let same : o.1 ≡ n = same_owner o.1 n o.4 i q o.5 own in
+          let eq : o.0 ≡ number = graph.once o.0 number n (subst (λ (m : Node). slice_get g.nodes o.0 ≡ Some m) same o.3) one.node in
+          let m : IsMet old.slots number = subst (λ k. IsMet old.slots k) eq o.2 in
+          let zero = one.idle in omega (arith, m, zero)
 
 pub meeting_more : (g : Terms) (bits : List BitId) (old new : Met) (stack rest after : List ℕ) (number : ℕ) → IsGraph g → stack ≡ rest ++ number ∷ [] → Meeting g bits old stack →
     Meets g number old new rest after → Meeting g bits new after
@@ -351,12 +351,13 @@ meeting_all g bits met stack graph empty is =
         total = is.summed;
       };
       numbered = is.numbered;
+      few = places_few g bits met stack graph is;
       wanted = record {
         once = is.once;
         under = λ x q e. let o = is.owned x q e in place_under g bits o.0 o.1 o.4 q o.3 (is.sound o.0 (inl o.2)) o.5;
       };
     } where
-  reached : (g : Terms) (slots : List ℕ) → ((k : ℕ) (n : Node) → IsMet slots k → slice_get g.nodes k ≡ Some n → (c : ℕ) → IsAmong c (children n) → IsMet slots c) →
-      (j k : ℕ) → IsUnder g j k → IsMet slots k → IsMet slots j
-  reached g slots closed _ _ (Itself j k e) m = subst (λ i. IsMet slots i) (sym e) m
-  reached g slots closed _ _ (Below j k c n at among u) m = reached g slots closed j c u (closed k n m at c among)
+      reached : (g : Terms) (slots : List ℕ) → ((k : ℕ) (n : Node) → IsMet slots k → slice_get g.nodes k ≡ Some n → (c : ℕ) → IsAmong c (children n) → IsMet slots c) →
+          (j k : ℕ) → IsUnder g j k → IsMet slots k → IsMet slots j
+      reached g slots closed _ _ (Itself j k e) m = subst (λ i. IsMet slots i) (sym e) m
+      reached g slots closed _ _ (Below j k c n at among u) m = reached g slots closed j c u (closed k n m at c among)

@@ -1,5 +1,5 @@
 -- Numbers of 32 bits, and twice the signed product of two words.
-use Rattle.std.proofs.Common.{◌≡◌, ℕ, suc, zero, ◌+◌, ◌-◌, ◌*◌, ◌/◌, ◌%◌, ◌^◌, ◌<◌, ◌≤◌, Bool, true, false, if◌then◌else◌, nat_lt, List, [], ◌∷◌, length, set, take, refl, sym, ◌∙◌, ap, ap₂, subst, inl, inr, arith}
+use Rattle.std.proofs.Common.{◌≡◌, ℕ, suc, zero, ◌+◌, ◌-◌, ◌*◌, ◌%◌, ◌^◌, ◌<◌, ◌≤◌, Bool, true, false, if◌then◌else◌, nat_lt, refl, ◌∙◌, ap, ap₂, inl, inr, arith}
 use Rattle.std.specs.Prelude.{unsigned_abs}
 use Rattle.std.proofs.Math.IntN.{ℤ, pos, negsuc, ◌+ℤ◌, ◌*ℤ◌, ◌-ℤ◌, neg_ℤ, pos-*ℤ-pos, negsuc-*ℤ-pos, pos-*ℤ-negsuc, negsuc-*ℤ-negsuc}
 use Rattle.std.specs.Int.{int_rem_euclid}
@@ -97,7 +97,7 @@ rows_total x y l S R false small low is_y is_s is_r = elim (cases_lt x 32768) [
       (let same : 2 * extended x * l ≡ 2 * x * l = ap (λ n. 2 * n * l) (extended_small x plus) in
       let y_is : y ≡ l = omega (arith, is_y) in
       let prod : product x y ≡ (2 * x * l) % 2 ^ 32 = product_is x y (pos x) (pos l) 0 (2 * x * l) (signed_small x plus) (signed_small y (omega (arith, y_is, low)) ∙ ap pos y_is)
-          (plus_plus x l (0 * 2 ^ 32) (2 * x * l) (exact_plus x l)) in
+      (plus_plus x l (0 * 2 ^ 32) (2 * x * l) (exact_plus x l)) in
       omega (arith, is_s, same, prod))
   | inr minus ↦
       (let w = 65535 - x in
@@ -105,8 +105,8 @@ rows_total x y l S R false small low is_y is_s is_r = elim (cases_lt x 32768) [
       let same : 2 * extended x * l ≡ 2 * (x + 4294901760) * l = ap (λ n. 2 * n * l) (extended_great x minus) in
       let y_is : y ≡ l = omega (arith, is_y) in
       let prod : product x y ≡ (2 * (x + 4294901760) * l) % 2 ^ 32 = product_is x y (negsuc w) (pos l) (2 * l) (2 * (x + 4294901760) * l)
-          (signed_great x w minus sum) (signed_small y (omega (arith, y_is, low)) ∙ ap pos y_is)
-          (minus_first w l ((2 * l) * 2 ^ 32) (2 * (x + 4294901760) * l) (exact_first x w l sum)) in
+      (signed_great x w minus sum) (signed_small y (omega (arith, y_is, low)) ∙ ap pos y_is)
+      (minus_first w l ((2 * l) * 2 ^ 32) (2 * (x + 4294901760) * l) (exact_first x w l sum)) in
       omega (arith, is_s, same, prod))
 ]
 rows_total x y l S R true small low is_y is_s is_r = elim (cases_lt x 32768) [
@@ -119,7 +119,7 @@ rows_total x y l S R true small low is_y is_s is_r = elim (cases_lt x 32768) [
       let m = 2 * x * l + 4294967296 - 65536 * x in
       let is_m : m + 65536 * x ≡ 2 * x * l + 4294967296 = omega (arith, plus) in
       let prod : product x y ≡ m % 2 ^ 32 = product_is x y (pos x) (negsuc u) 1 m (signed_small x plus) (signed_great y u (omega (arith, y_is)) (omega (arith, y_is, rest)))
-          (minus_second x u (1 * 2 ^ 32) m (exact_second x u l m rest is_m)) in
+      (minus_second x u (1 * 2 ^ 32) m (exact_second x u l m rest is_m)) in
       omega (arith, is_s, is_r, same, row, is_m, prod, plus))
   | inr minus ↦
       (let w = 65535 - x in
@@ -132,6 +132,6 @@ rows_total x y l S R true small low is_y is_s is_r = elim (cases_lt x 32768) [
       let m = 2 * (x + 4294901760) * l + 4294967296 - 65536 * x in
       let is_m : m + 65536 * x ≡ 2 * (x + 4294901760) * l + 4294967296 = omega (arith, small) in
       let prod : product x y ≡ m % 2 ^ 32 = product_is x y (negsuc w) (negsuc u) (2 * l) m (signed_great x w minus sum) (signed_great y u (omega (arith, y_is)) (omega (arith, y_is, rest)))
-          (minus_both w u ((2 * l) * 2 ^ 32) m (exact_both x w u l m sum rest is_m)) in
+      (minus_both w u ((2 * l) * 2 ^ 32) m (exact_both x w u l m sum rest is_m)) in
       omega (arith, is_s, is_r, same, row, is_m, prod, small))
 ]

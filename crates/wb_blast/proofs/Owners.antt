@@ -1,6 +1,6 @@
 -- The places of a node's bits.
-use Rattle.std.proofs.Common.{◌≡◌, ◌≢◌, ◌==◌, ℕ, zero, suc, ◌+◌, ◌*◌, ◌<◌, ◌≤◌, Bool, true, false, ◌||◌, List, [], ◌∷◌, length, Some, slice_get, map, refl, sym, ◌∙◌, ap, subst, inl, inr, arith, ◌++◌, ◌-◌, append_assoc}
-use Rattle.std.proofs.lemmas.Bool.{cases_eq, ne_eqb, eqb-true}
+use Rattle.std.proofs.Common.{◌≡◌, ◌≢◌, ◌==◌, ℕ, zero, suc, ◌+◌, ◌*◌, ◌<◌, ◌≤◌, true, false, ◌||◌, List, [], ◌∷◌, length, Some, slice_get, map, refl, sym, ◌∙◌, ap, subst, inl, inr, arith, ◌++◌, append_assoc}
+use Rattle.std.proofs.lemmas.Bool.{cases_eq, ne_eqb}
 use Rattle.std.proofs.lemmas.List.{length-map}
 use Rattle.std.proofs.lemmas.Map.Steps.{length-le_from_distinct_below}
 use Rattle.std.specs.List.{IsDistinct, AllByRecursion, list_any}
@@ -8,7 +8,7 @@ use Rattle.wb_term.specs.declared.nodes.BitId.{BitId}
 use Rattle.wb_term.specs.declared.nodes.Node.{Node}
 use Rattle.wb_term.specs.declared.nodes.Node.TheVariants.{Word, Bit}
 use Rattle.wb_term.specs.declared.nodes.WordNode.TheVariants as word
-use Rattle.wb_term.specs.Terms.{Terms, IsPlaced, first_of}
+use Rattle.wb_term.specs.Terms.{Terms, IsPlaced}
 use Rattle.wb_blast.specs.declared.places.Place.{Place}
 use Rattle.wb_blast.specs.declared.places.Place.TheVariants.{Byte, Cell}
 use Rattle.wb_blast.specs.Meeting.{node_places, places_down, EachOnce}
@@ -71,7 +71,7 @@ place_under g bits k (Word n) j q at under e = absurd (get_none j q e)
 place_under g bits k (Bit n) j q at under e = absurd (get_none j q e)
 
 -- each place has a number of its own
-abbrev IsInRange : Place → Type 0
+abbrev pub IsInRange : Place → Type 0
 IsInRange (Byte place b) = (place < 16) × (b < 8)
 IsInRange (Cell place b) = (place < 256) × (b < 16)
 
@@ -98,9 +98,6 @@ same_code (Byte p a) (Byte q b) h k e = (let f : p ≡ q = (let x = h.1 in let y
 same_code (Byte p a) (Cell q b) h k e = (let x = h.0 in let y = h.1 in absurd (omega (arith, x, y, e)))
 same_code (Cell p a) (Byte q b) h k e = (let x = k.0 in let y = k.1 in absurd (omega (arith, x, y, e)))
 same_code (Cell p a) (Cell q b) h k e = (let f : p ≡ q = (let x = h.1 in let y = k.1 in omega (arith, x, y, e)) in let s : a ≡ b = omega (arith, e, f) in cc)
-
-
-
 
 other_codes : (p : Place) (ps : List Place) → ((k : ℕ) (q : Place) → slice_get ps k ≡ Some q → code p ≢ code q) → AllByRecursion (λ c. (code p == c) ≡ false) (map code ps)
 other_codes p [] other = tt

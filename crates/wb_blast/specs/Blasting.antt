@@ -1,5 +1,7 @@
 -- What the formula of some bits says of their graph.
 use Rattle.std.specs.Prelude.{◌≡◌, ◌↔◌, ℕ, ◌<◌, ◌≤◌, true, List, [], ◌∷◌, Some, length, slice_get}
+use Rattle.wb_gate.specs.declared.gates.Goal.{Goal}
+use Rattle.wb_gate.specs.declared.gates.Goal.TheVariants as goal
 use Rattle.wb_gate.specs.Circuit.{Circuit, Assignment, variables, Obeys}
 use Rattle.wb_gate.specs.Clauses.{Satisfies}
 use Rattle.wb_term.specs.declared.nodes.BitId.{BitId}
@@ -7,6 +9,8 @@ use Rattle.wb_term.specs.Inputs.{Assignment as Inputs, IsAssignment}
 use Rattle.wb_term.specs.Terms.{Terms}
 use Rattle.wb_term.specs.Values.{bit_value}
 use Rattle.wb_blast.specs.declared.entries.Entry.{Entry}
+use Rattle.wb_blast.specs.declared.entries.Entry.TheVariants.{T, F}
+use Rattle.wb_blast.specs.declared.entries.Entry.TheVariants as entry
 use Rattle.wb_blast.specs.declared.places.Place.{Place}
 use Rattle.wb_blast.specs.Entries.{entry_value, EntryBelow}
 use Rattle.wb_blast.specs.Number.{IsGateNumber}
@@ -59,3 +63,9 @@ pub record AreBlasted (g : Terms) (bits : List BitId) (limit : ℕ) (c : Circuit
   pub inputs : c.inputs ≡ length places
   pub wanted : ArePlaces g bits places
   pub gates : IsWithin g bits limit c
+
+-- the goal that an entry is true
+abbrev pub goal_of : Entry → Goal
+goal_of T = goal.Always
+goal_of F = goal.Never
+goal_of (entry.Lit l) = goal.Lit l

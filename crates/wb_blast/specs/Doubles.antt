@@ -1,5 +1,5 @@
 -- Numbers of 32 bits in two words of entries, and the products of two words.
-use Rattle.std.specs.Prelude.{◌≡◌, ℕ, ◌+◌, ◌*◌, ◌%◌, ◌^◌, ◌<◌, if◌then◌else◌, nat_lt, List, take}
+use Rattle.std.specs.Prelude.{◌≡◌, ℕ, ◌+◌, ◌*◌, ◌%◌, ◌^◌, if◌then◌else◌, nat_lt, List, take}
 use Rattle.wb_gate.specs.Circuit.{Circuit, Assignment, variables, Obeys}
 use Rattle.wb_gate.specs.Growth.{Extends}
 use Rattle.wb_blast.specs.declared.entries.Entry.{Entry}

@@ -1,9 +1,12 @@
 pub mod Blasting
+pub mod Building
 pub mod Doubles
 pub mod Entries
+pub mod Laws
 pub mod Meeting
 pub mod Number
 pub mod Operations
 pub mod Places
+pub mod Rows
 pub mod Walk
 pub mod Words

@@ -79,6 +79,7 @@ pub record HasMet (g : Terms) (bits : List BitId) (met : Met) : Type 0 where
   pub number : IsGateNumber g bits met.weight
   pub numbered : (k : ℕ) (n : Node) → IsMet met.slots k → slice_get g.nodes k ≡ Some n → StandsAt met.places.items (slice_index met.slots k - 1) (node_places n)
   pub wanted : ArePlaces g bits met.places.items
+  pub few : length met.places.items ≤ 4224
 
 -- a node that is met for the first time
 pub record IsNewlyMet (g : Terms) (number : ℕ) (old new : Met) (before after : List ℕ) (n : Node) : Type 0 where

@@ -1,30 +1,39 @@
-//! From terms to gates: the bits of a term graph as literals of a formula.
+//! From terms to gates: the bits of a term graph as a formula whose satisfying assignments are the inputs.
 //!
-//! `count_gates` tells how many gates a bit may need, and the circuits make them: an `Entry` is what one bit is in a
-//! formula, a `Word` what sixteen are, the lowest first. `children` has the numbers below a node and its weight,
-//! `number` the walk over all nodes under some bits, `inputs` the words of input variables, `entries` the gates over
-//! bits, `bitwise` the circuits that work bit by bit on words, `shifts` what moves the bits, and `words` the circuits
-//! that add, subtract and compare. `specs/Number.antt` has the gate number, `specs/Words.antt` the number that a word
-//! stands for.
+//! `count_gates` tells how many gates a bit may need. `blast` makes the formula of a bit: for all inputs it has an
+//! assignment that gives them exactly where the bit is true. `blast_many` gives the entries of several bits in one
+//! formula.
+//!
+//! An `Entry` is what one bit is in a formula, a `Word` what sixteen are, the lowest first. `blasting` has the
+//! formulas, `meeting` the walk that meets the nodes and numbers the inputs, `building` the rows of the nodes in order
+//! of number, `circuits` the circuit of one node, `rows` what the nodes are, and `places` the places of input
+//! variables. `number` has the gate number and `laws` that there is one, `children` the numbers below a node and its
+//! weight. The circuits stand in `entries`, over bits, `bitwise`, bit by bit on words, `shifts`, `inputs`, the words
+//! of input variables, `words`, which add, subtract and compare, `products` and `lookups`. `specs/Blasting.antt` and
+//! `specs/Places.antt` say what a formula means, `specs/Number.antt` what the gate number is.
 #![tactic(auto)]
 
 mod bitwise;
+mod blasting;
+mod building;
 mod children;
+mod circuits;
 mod entries;
 mod inputs;
+mod laws;
+mod lookups;
 mod meeting;
 mod number;
 mod places;
 mod products;
+mod rows;
 mod shifts;
 #[cfg(test)]
 mod tests;
 mod words;
 
-pub use bitwise::{Operation, combine_words, constant, constant_word, inverted};
-pub use entries::{Entry, and, majority, mux, negation, or, xor};
-pub use inputs::input_word;
+pub use blasting::{Blasted, Many, blast, blast_many};
+pub use entries::Entry;
+pub use laws::gate_numbers_agree;
 pub use number::count_gates;
 pub use places::Place;
-pub use shifts::{shifted_left, shifted_right};
-pub use words::{Word, add_words, borrow_of, carry_of, same_words, subtract_words};

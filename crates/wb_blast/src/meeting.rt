@@ -78,12 +78,7 @@ fn stack_bits(bits: &[BitId], stack: &mut Vec<u32>) -> Result<(), OutOfMemory>
 }
 
 /// Meets the node of a number, unless it was met.
-fn meet(
-    graph: &Graph,
-    number: u32,
-    met: &mut Met,
-    stack: &mut Vec<u32>,
-) -> Result<(), OutOfMemory>
+fn meet(graph: &Graph, number: u32, met: &mut Met, stack: &mut Vec<u32>) -> Result<(), OutOfMemory>
     requires there { number < length graph.now.nodes }
     requires covered { length met.old.slots ≡ length graph.now.nodes }
     requires few_places { length met.old.places.items ≤ 4224 }

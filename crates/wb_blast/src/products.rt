@@ -75,7 +75,12 @@ fn complement(x: &Double) -> Double
 }
 
 /// Two numbers and a carry.
-fn add_doubles(formula: &mut Formula, x: &Double, y: &Double, c: Entry) -> Result<Double, OutOfMemory>
+fn add_doubles(
+    formula: &mut Formula,
+    x: &Double,
+    y: &Double,
+    c: Entry,
+) -> Result<Double, OutOfMemory>
     requires x_there { IsDoubleBelow (variables formula.old) x.now }
     requires y_there { IsDoubleBelow (variables formula.old) y.now }
     requires c_there { EntryBelow (variables formula.old) c }
@@ -103,7 +108,12 @@ fn masked(formula: &mut Formula, c: Entry, x: &Double) -> Result<Double, OutOfMe
 }
 
 /// The sum with a row added where the entry is true.
-fn add_row(formula: &mut Formula, sum: &Double, c: Entry, row: &Double) -> Result<Double, OutOfMemory>
+fn add_row(
+    formula: &mut Formula,
+    sum: &Double,
+    c: Entry,
+    row: &Double,
+) -> Result<Double, OutOfMemory>
     requires c_there { EntryBelow (variables formula.old) c }
     requires sum_there { IsDoubleBelow (variables formula.old) sum.now }
     requires row_there { IsDoubleBelow (variables formula.old) row.now }
@@ -116,7 +126,12 @@ fn add_row(formula: &mut Formula, sum: &Double, c: Entry, row: &Double) -> Resul
 }
 
 /// The sum with a row subtracted where the entry is true.
-fn subtract_row(formula: &mut Formula, sum: &Double, c: Entry, row: &Double) -> Result<Double, OutOfMemory>
+fn subtract_row(
+    formula: &mut Formula,
+    sum: &Double,
+    c: Entry,
+    row: &Double,
+) -> Result<Double, OutOfMemory>
     requires c_there { EntryBelow (variables formula.old) c }
     requires sum_there { IsDoubleBelow (variables formula.old) sum.now }
     requires row_there { IsDoubleBelow (variables formula.old) row.now }

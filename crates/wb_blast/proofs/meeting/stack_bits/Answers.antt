@@ -1,4 +1,4 @@
-use Rattle.std.proofs.Common.{◌≡◌, ◌-◌, ◌+◌, ◌++◌, [], ◌∷◌, List, ℕ, suc, drop, get_or, arith, ap, sym, ◌∙◌, subst, drop-cons}
+use Rattle.std.proofs.Common.{◌≡◌, ◌-◌, ◌++◌, [], ◌∷◌, List, ℕ, suc, drop, get_or, arith, ap, sym, ◌∙◌, subst, drop-cons}
 use Rattle.wb_term.specs.declared.nodes.BitId.{BitId}
 use Rattle.wb_blast.specs.Meeting.{StacksBits}
 use Rattle.wb_blast.proofs.Meets.{stacks_bits_more}
@@ -19,5 +19,5 @@ loop-at-preserved c =
       within = omega (arith, within);
       stacks = subst (λ (s : List ℕ). StacksBits (drop (at - 1) bits) s) (sym (c.in_ok-push.ensures.items ∙ ap (λ n. c.loop-at.stack.items ++ n ∷ []) c.number.ensures))
           (subst (λ (s : List BitId). StacksBits s (c.loop-at.stack.items ++ b.number ∷ [])) (sym split)
-              (stacks_bits_more (drop at bits) c.loop-at.stack.items b is.stacks));
+          (stacks_bits_more (drop at bits) c.loop-at.stack.items b is.stacks));
     }

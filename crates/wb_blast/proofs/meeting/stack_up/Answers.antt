@@ -1,4 +1,4 @@
-use Rattle.std.proofs.Common.{◌≡◌, ◌-◌, ◌+◌, ◌++◌, [], ◌∷◌, List, ℕ, suc, drop, get_or, arith, ap, sym, ◌∙◌, subst, drop-cons}
+use Rattle.std.proofs.Common.{◌≡◌, ◌-◌, ◌++◌, [], ◌∷◌, List, ℕ, suc, drop, get_or, arith, ap, sym, ◌∙◌, subst, drop-cons}
 use Rattle.wb_blast.specs.Meeting.{Stacks}
 use Rattle.wb_blast.proofs.Meets.{stacks_more}
 use Rattle.wb_blast.proofs.meeting.stack_up.Goals as goal
@@ -17,5 +17,5 @@ loop-at-preserved c =
       within = omega (arith, within);
       stacks = subst (λ (s : List ℕ). Stacks c.args.stack.now.items s (drop (at - 1) ns)) (sym c.in_ok-push.ensures.items)
           (subst (λ (s : List ℕ). Stacks c.args.stack.now.items (c.loop-at.stack.items ++ k ∷ []) s) (sym split)
-              (stacks_more c.args.stack.now.items c.loop-at.stack.items (drop at ns) k is.stacks));
+          (stacks_more c.args.stack.now.items c.loop-at.stack.items (drop at ns) k is.stacks));
     }

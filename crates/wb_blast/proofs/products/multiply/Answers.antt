@@ -16,7 +16,6 @@ loop-at-preserved c =
     c.twice-row-in-loop-at.result c.loop-at.at (omega (arith, within)) is c.in_ok-more.ensures.extends c.in_ok-more.ensures.means
     (c.twice-row-in-loop-at.ensures.there _ is.row_there) c.twice-row-in-loop-at.ensures.value
 
-
 pub returns-clause-means : goal.returns-clause-means
 returns-clause-means c =
     let test = c.loop-at-test.false in

@@ -1,4 +1,3 @@
-use Rattle.std.proofs.Common.{◌+◌}
 use Rattle.wb_blast.specs.Doubles.{Multiplied}
 use Rattle.wb_blast.proofs.products.multiply.Given as goal
 

@@ -1,5 +1,4 @@
 use Rattle.std.proofs.Common.{arith}
-use Rattle.wb_blast.specs.Words.{entry_at}
 use Rattle.wb_blast.proofs.Bits.{number_bit}
 use Rattle.wb_blast.proofs.Sums.{number_small}
 use Rattle.wb_blast.proofs.products.twice.Goals as goal

@@ -1,0 +1,146 @@
+//! Formulas whose satisfying assignments are the inputs under which a bit is true.
+ghost use Rattle.std.specs.Prelude.{◌≡◌, [], ◌∷◌, ◌<◌, ◌≤◌, ◌^◌, ℕ, Some, IfOk, IfErr, length, slice_get};
+ghost use Rattle.wb_gate.specs.Circuit.{variables, GoalBelow};
+ghost use Rattle.wb_term.specs.declared.nodes.BitId.{BitId};
+ghost use Rattle.wb_term.specs.Terms.{HasBit};
+ghost use Rattle.wb_blast.specs.Blasting.{AreBlasted, IsBlasted, IsOver, goal_of};
+ghost use Rattle.wb_blast.specs.Entries.{EntryBelow};
+ghost use Rattle.wb_blast.specs.Meeting.{HasMet, IsMet};
+ghost use Rattle.wb_blast.specs.Rows.{HasBitRows, AreBitRows};
+
+use crate::building::build;
+use crate::entries::Entry;
+use crate::meeting::{Met, walk};
+use crate::places::Place;
+use crate::rows::Rows;
+use std::alloc::Global;
+use wb_gate::{Formula, GateFault, Goal, clauses_say_the_gates, inputs_decide};
+use wb_term::{BitId, Graph};
+use wb_word::OutOfMemory;
+
+/// The formula of a bit, and for each input variable its place.
+#[derive(Drop)]
+pub struct Blasted {
+    pub formula: Formula,
+    pub places: Vec<Place>,
+}
+
+/// The formula of some bits, for each input variable its place, and for each bit its entry.
+#[derive(Drop)]
+pub struct Many {
+    pub formula: Formula,
+    pub places: Vec<Place>,
+    pub entries: Vec<Entry>,
+}
+
+/// The entries of the bits.
+fn entries_of(alloc: Global, rows: &Rows, bits: &[BitId]) -> Result<Vec<Entry>, OutOfMemory>
+    requires { HasBitRows rows.now bits.now }
+    ensures { IfOk result (λ entries. AreBitRows rows.now bits.now entries.items) }
+{
+    let mut entries = Vec::with_capacity(alloc, bits.len())?;
+    for at in 0..bits.len() {
+        entries.push(rows.bit(bits[at]))?;
+    }
+    Ok(entries)
+}
+
+/// The formula of the nodes that were met.
+fn blast_met(
+    alloc: Global,
+    graph: &Graph,
+    bits: &[BitId],
+    limit: u64,
+    met: Met,
+) -> Result<Many, OutOfMemory>
+    requires there { (k : ℕ) (bit : BitId) → slice_get bits.now k ≡ Some bit → HasBit graph.now bit }
+    requires met { HasMet graph.now bits.now met }
+    requires within { met.weight ≤ limit }
+    requires few { limit ≤ 2 ^ 31 }
+    ensures { IfOk result (λ many. AreBlasted graph.now bits.now limit many.formula many.places.items many.entries.items) }
+{
+    let Met {
+        slots,
+        places,
+        weight: _,
+    } = met;
+    let mut formula = Formula::new(alloc, places.len() as u32, limit);
+    let mut rows = Rows {
+        places,
+        slots,
+        words: Vec::new(alloc),
+        bits: Vec::new(alloc),
+    };
+    build(&mut formula, graph, &mut rows)?;
+    let entries = entries_of(alloc, &rows, bits)?;
+    let Rows {
+        places,
+        slots: _,
+        words: _,
+        bits: _,
+    } = rows;
+    Ok(Many {
+        formula,
+        places,
+        entries,
+    })
+}
+
+/// The formula of some bits, with at most so many gates: in a formula that is refused none is made.
+pub fn blast_many(
+    alloc: Global,
+    graph: &Graph,
+    bits: &[BitId],
+    limit: u64,
+) -> Result<Many, GateFault>
+    requires there { (k : ℕ) (bit : BitId) → slice_get bits.now k ≡ Some bit → HasBit graph.now bit }
+    requires few { limit ≤ 2 ^ 31 }
+    ensures blasted { IfOk result (λ many. AreBlasted graph.now bits.now limit many.formula many.places.items many.entries.items) }
+    ensures full { IfErr result (λ fault. fault ≡ GateFault.Full → IsOver graph.now bits.now limit) }
+{
+    let Ok(met) = walk(alloc, graph, bits) else {
+        return Err(GateFault::OutOfMemory);
+    };
+    if met.weight > limit {
+        return Err(GateFault::Full);
+    }
+    let Ok(many) = blast_met(alloc, graph, bits, limit, met) else {
+        return Err(GateFault::OutOfMemory);
+    };
+    Ok(many)
+}
+
+/// The goal that an entry is true.
+fn goal_of(entry: Entry) -> Goal
+    ensures goal { result ≡ goal_of entry }
+    ensures there { (n : ℕ) → EntryBelow n entry → GoalBelow n result }
+{
+    match entry {
+        Entry::T => Goal::Always,
+        Entry::F => Goal::Never,
+        Entry::Lit(lit) => Goal::Lit(lit),
+    }
+}
+
+/// The formula of a bit, with at most so many gates.
+///
+/// Its input variables are numbered in the order in which a walk from the bit meets the inputs, which goes into the
+/// condition of a choice before what it chooses.
+pub fn blast(alloc: Global, graph: &Graph, bit: BitId, limit: u64) -> Result<Blasted, GateFault>
+    requires there { HasBit graph.now bit }
+    requires few { limit ≤ 2 ^ 31 }
+    ensures blasted { IfOk result (λ made. IsBlasted graph.now bit limit made.formula made.places.items) }
+    ensures full { IfErr result (λ fault. fault ≡ GateFault.Full → IsOver graph.now (bit ∷ []) limit) }
+{
+    clauses_say_the_gates();
+    inputs_decide();
+    let _nodes = graph.len();
+    let many = blast_many(alloc, graph, &[bit], limit)?;
+    let Many {
+        mut formula,
+        places,
+        entries,
+    } = many;
+    formula.set_goal(goal_of(entries[0]));
+    Ok(Blasted { formula, places })
+}
