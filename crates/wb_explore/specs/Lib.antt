@@ -1,5 +1,9 @@
 pub mod Entries
+pub mod Faults
+pub mod Growth
 pub mod HeldLaws
+pub mod Layers
+pub mod Plans
 pub mod Purses
 pub mod Runs
 pub mod Seen

@@ -3,9 +3,15 @@
 
 mod budget;
 mod facts;
+mod faults;
+mod layer;
+mod plan;
 mod purse;
 mod reached;
 
 pub use budget::Budget;
+pub use faults::{Asked, ExploreFault};
+pub use layer::{Layer, Request};
+pub use plan::Plan;
 pub use purse::Purse;
 pub use reached::{Reached, ReachedPoint};

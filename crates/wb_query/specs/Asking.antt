@@ -11,12 +11,12 @@ use Rattle.wb_term.specs.declared.nodes.BitId.{BitId}
 use Rattle.wb_term.specs.Inputs.{Assignment, IsAssignment}
 use Rattle.wb_term.specs.Terms.{Terms}
 use Rattle.wb_term.specs.Values.{bit_value}
-use Rattle.wb_blast.specs.declared.formula.Blasted.{Blasted}
+use Rattle.wb_blast.specs.declared.blasting.Blasted.{Blasted}
 use Rattle.wb_blast.specs.Blasting.{IsBlasted}
-use Rattle.wb_query.specs.declared.oracle.Found.{Found}
-use Rattle.wb_query.specs.declared.oracle.Found.TheVariants as found
-use Rattle.wb_query.specs.declared.oracle.AskFault.{AskFault}
-use Rattle.wb_query.specs.declared.oracle.AskFault.TheVariants as fault
+use Rattle.wb_query.specs.declared.oracles.Found.{Found}
+use Rattle.wb_query.specs.declared.oracles.Found.TheVariants as found
+use Rattle.wb_query.specs.declared.oracles.AskFault.{AskFault}
+use Rattle.wb_query.specs.declared.oracles.AskFault.TheVariants as fault
 
 -- the bit is true under the inputs; or it is false under all inputs
 abbrev pub IsFound : Terms → BitId → Found → Type 0

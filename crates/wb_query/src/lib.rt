@@ -1,8 +1,8 @@
 //! A stand-in for the crate of questions: its types and contracts, with no body. It never lands.
 #![tactic(auto)]
 
-mod ask;
-mod oracle;
+mod asking;
+mod oracles;
 
-pub use ask::ask;
-pub use oracle::{AskFault, Found, Oracle};
+pub use asking::ask;
+pub use oracles::{AskFault, Found, Oracle};

@@ -3,7 +3,7 @@ ghost use Rattle.wb_blast.specs.Number.{IsGateNumber};
 ghost use Rattle.wb_term.specs.Terms.{HasBit};
 ghost use Rattle.wb_query.specs.Asking.{IsFound, IsAskFault};
 
-use crate::oracle::{AskFault, Found, Oracle};
+use crate::oracles::{AskFault, Found, Oracle};
 use std::alloc::Global;
 use wb_term::{BitId, Graph};
 
