@@ -4,3 +4,6 @@ pub mod MergeBits
 pub mod Told
 pub mod Compared
 pub mod Merged
+pub mod Transfers
+pub mod Normal
+pub mod Decided

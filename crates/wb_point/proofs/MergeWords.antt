@@ -1,18 +1,16 @@
 -- The words of two lists, merged one after another.
-use Rattle.std.proofs.Common.{◌≡◌, ℕ, ◌+◌, ◌*◌, ◌<◌, ◌≤◌, ◌⊎◌, inl, inr, Bool, cond, List, [], ◌∷◌, ◌++◌, length, refl, sym, ap, ◌∙◌, subst, arith}
+use Rattle.std.proofs.Common.{◌≡◌, ℕ, ◌+◌, ◌*◌, ◌<◌, ◌≤◌, ◌⊎◌, inl, inr, Bool, cond, List, [], ◌∷◌, ◌++◌, length, sym, ap, ◌∙◌, subst, arith}
 use Rattle.std.proofs.lemmas.List.{get_or_append_left, get_or_push, length_push}
 use Rattle.std.proofs.lemmas.Bool.{cases_lt}
 use Rattle.wb_term.specs.declared.nodes.WordId.{WordId}
 use Rattle.wb_term.specs.declared.nodes.BitId.{BitId}
 use Rattle.wb_term.specs.declared.nodes.Node.{Node}
-use Rattle.wb_term.specs.Inputs.{Assignment}
 use Rattle.wb_term.specs.Terms.{Terms, HasWord, HasBit}
-use Rattle.wb_term.specs.Values.{IsWord, IsBit, word_value, bit_value}
+use Rattle.wb_term.specs.Values.{IsWord, word_value, bit_value}
 use Rattle.wb_term.specs.Under.{HasOnly}
 use Rattle.wb_term.specs.Growth.{Grown, AddsAtMost}
 use Rattle.wb_make.specs.Inputs.{BringsOnly}
 use Rattle.wb_fold.specs.Ram.{word_in, HasWords, AreWords, WordsHaveOnly, merged}
-use Rattle.wb_point.specs.Lists.{bit_in, HasBits, AreBits, BitsHaveOnly, merged_bit}
 use Rattle.wb_point.proofs.Growth.{◌▸◌}
 
 -- Every entry of a longer list is one of the list before, or the new one.

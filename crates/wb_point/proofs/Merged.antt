@@ -1,23 +1,21 @@
 -- One state made of the merged terms of two.
-use Rattle.std.proofs.Common.{◌≡◌, ◌↔◌, ℕ, zero, suc, ◌+◌, ◌<◌, ◌≤◌, Bool, true, false, if◌then◌else◌, List, [], ◌∷◌, length, slice_index, refl, sym, ap, ◌∙◌, subst, arith, lit<}
+use Rattle.std.proofs.Common.{◌≡◌, ℕ, zero, suc, ◌<◌, Bool, true, false, if◌then◌else◌, List, [], ◌∷◌, length, refl, sym, ap, ◌∙◌, subst, arith, lit<}
 use Rattle.wb_term.specs.declared.nodes.WordId.{WordId}
 use Rattle.wb_term.specs.declared.nodes.BitId.{BitId}
 use Rattle.wb_term.specs.declared.nodes.Node.{Node}
-use Rattle.wb_term.specs.Nodes.{Each}
 use Rattle.wb_term.specs.Inputs.{Assignment, IsAssignment}
 use Rattle.wb_term.specs.Terms.{Terms, HasWord, HasBit}
 use Rattle.wb_term.specs.Values.{word_value, bit_value}
 use Rattle.wb_term.specs.Under.{HasOnly}
 use Rattle.wb_term.specs.Growth.{Grown}
-use Rattle.wb_fold.specs.declared.flags.SymFlags.{SymFlags}
-use Rattle.wb_fold.specs.Ram.{word_in, HasWords, AreWords, WordsHaveOnly, merged}
-use Rattle.wb_fold.specs.Flags.{flags_value, flag_numbers, HasFlags}
+use Rattle.wb_fold.specs.Ram.{word_in, AreWords, WordsHaveOnly, merged}
+use Rattle.wb_fold.specs.Flags.{flags_value}
 use Rattle.wb_machine.specs.State.{State}
 use Rattle.wb_port.specs.declared.points.Shown.{Shown}
 use Rattle.wb_symstep.specs.declared.state.SymState.{SymState}
 use Rattle.wb_symstep.specs.State.{status, StandsFor, IsSymState, StateHasOnly}
 use Rattle.wb_point.specs.Shows.{shows, SamePlace}
-use Rattle.wb_point.specs.Lists.{bit_in, HasBits, AreBits, BitsHaveOnly, merged_bit, word_list, bit_list, state_of}
+use Rattle.wb_point.specs.Lists.{bit_in, AreBits, BitsHaveOnly, merged_bit, word_list, bit_list, state_of}
 use Rattle.wb_point.specs.Merging.{side_by, Merges}
 use Rattle.wb_point.proofs.Growth.{◌▸◌}
 

@@ -1,5 +1,5 @@
 -- What a state shows is what the machine shows for which it stands.
-use Rattle.std.proofs.Common.{◌≡◌, ℕ, ◌+◌, ◌*◌, ◌/◌, ◌%◌, ◌==◌, Bool, true, false, ap, sym, ◌∙◌, arith}
+use Rattle.std.proofs.Common.{◌≡◌, ℕ, ◌/◌, ◌%◌, ◌==◌, Bool, true, false, ap, sym, ◌∙◌, arith}
 use Rattle.wb_term.specs.Inputs.{Assignment}
 use Rattle.wb_term.specs.Terms.{Terms}
 use Rattle.wb_term.specs.Values.{word_value}

@@ -1,5 +1,5 @@
 -- The dialogue of some kinds of transfers that inputs choose, and the inputs of a dialogue.
-use Rattle.std.specs.Prelude.{◌≡◌, ℕ, ◌+◌, List, [], ◌∷◌, ◌++◌, replicate, take, slice_index}
+use Rattle.std.specs.Prelude.{ℕ, ◌+◌, List, [], ◌∷◌, ◌++◌, replicate, take, slice_index}
 use Rattle.wb_term.specs.Inputs.{Assignment}
 use Rattle.wb_port.specs.declared.accesses.Access.{Access}
 use Rattle.wb_port.specs.declared.accesses.Access.TheVariants as access

@@ -1,5 +1,5 @@
 -- The terms of a symbolic state as lists of words and of bits.
-use Rattle.std.specs.Prelude.{◌≡◌, ℕ, ◌<◌, Bool, List, [], ◌∷◌, if◌then◌else◌, length, slice_index_or}
+use Rattle.std.specs.Prelude.{ℕ, ◌<◌, Bool, List, [], ◌∷◌, if◌then◌else◌, length, slice_index_or}
 use Rattle.wb_term.specs.declared.nodes.WordId.{WordId}
 use Rattle.wb_term.specs.declared.nodes.BitId.{BitId}
 use Rattle.wb_term.specs.declared.nodes.Node.{Node}

@@ -1,5 +1,5 @@
 -- Two states at one place of the program, merged by a condition.
-use Rattle.std.specs.Prelude.{◌↔◌, Bool, if◌then◌else◌}
+use Rattle.std.specs.Prelude.{◌↔◌, if◌then◌else◌}
 use Rattle.wb_term.specs.declared.nodes.BitId.{BitId}
 use Rattle.wb_term.specs.Inputs.{Assignment, IsAssignment}
 use Rattle.wb_term.specs.Terms.{Terms}

@@ -43,8 +43,9 @@ fn started(alloc: Global, inputs: &Inputs, power: Power) -> Result<Dialogue, Out
 /// The words of the RAM's start.
 fn cells_of(alloc: Global, inputs: &Inputs) -> Result<Vec<u16>, OutOfMemory>
     ensures words { IfOk result (λ cells. cells.items ≡ inputs.now.cells) }
-    ensures len { length inputs.now.cells ≡ 256 }
+    ensures len { IfOk result (λ cells. length cells.items ≡ 256) }
 {
+    let _first = inputs.cell(0);
     let mut cells = Vec::with_capacity(alloc, 256)?;
     for place in 0..256u16 {
         cells.push(inputs.cell(place as u8))?;

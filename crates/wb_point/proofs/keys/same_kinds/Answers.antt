@@ -1,4 +1,4 @@
-use Rattle.std.proofs.Common.{refl, ◌≡◌, Bool, true, subst}
+use Rattle.std.proofs.Common.{refl, ◌≡◌, true, subst}
 use Rattle.wb_point.proofs.Compared.{kinds_decide}
 use Rattle.wb_point.proofs.keys.same_kinds.Goals as goal
 
