@@ -35,11 +35,11 @@ IsChosenPlace ks p (Cell place b) = is_any p ≡ true
 -- The formula says its question, which is about the plan's dialogues alone: it marks points of the plan's side, and
 -- asks for no last access. The formula's places are bits that the dialogues choose.
 pub record IsAsked (image : Image) (p : Plan) (a : Asked) : Type 0 where
-  pub says : Says image image p.pace p.power a.blasted.formula a.blasted.places a.query
+  pub says : Says image image p.pace p.power a.blasted.formula a.blasted.places.items a.query
   pub kinds : a.query.kinds ≡ p.kinds
   pub marks : All (λ (m : Point). m.side ≡ p.side) a.query.marks
   pub last : a.query.last ≡ []
-  pub places : All (IsChosenPlace p.kinds p.power) a.blasted.places
+  pub places : All (IsChosenPlace p.kinds p.power) a.blasted.places.items
 
 -- What each fault says, where the oracle is sound or not, and of the purse before the call.
 abbrev pub IsCause : Image → Plan → Bool → Holding → ExploreFault → Type 0

@@ -11,6 +11,6 @@ start_nodes power.Zero = 32
 start_nodes power.Any = 544
 
 -- beyond the starting states, at most so many nodes for each point, and at most so much weight
-pub record IsWithin (g : Terms) (p : Power) (points nodes weight : ℕ) : Type 0 where
-  pub nodes : length g.nodes ≤ start_nodes p + nodes * points
-  pub weight : total_weight g ≤ weight * points
+pub record IsWithin (g : Terms) (p : Power) (points more heavier : ℕ) : Type 0 where
+  pub few : length g.nodes ≤ start_nodes p + more * points
+  pub light : total_weight g ≤ heavier * points

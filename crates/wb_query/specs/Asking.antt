@@ -31,7 +31,7 @@ IsBad c (answer.Spent steps) = Unit {0}
 
 -- the formula is that of the bit
 abbrev pub IsFormulaOf : Terms → BitId → Blasted → Type 0
-IsFormulaOf g bit b = IsBlasted g bit (2 ^ 31) b.formula b.places
+IsFormulaOf g bit b = IsBlasted g bit (2 ^ 31) b.formula b.places.items
 
 -- Spent comes from a sound oracle alone, a bad answer from one that isn't.
 abbrev pub IsAskFault : Terms → BitId → Bool → ℕ → AskFault → Type 0
