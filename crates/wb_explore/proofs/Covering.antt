@@ -14,9 +14,9 @@ use Rattle.wb_law.specs.declared.classes.Class.{Class}
 use Rattle.wb_law.specs.declared.classes.Class.TheVariants as class
 use Rattle.wb_law.specs.Classes.{class_at, rank_at, DoesNext}
 use Rattle.wb_explore.specs.HeldLaws.{HeldLaws}
-use Rattle.wb_explore.specs.Runs.{Runs, Comes, point_in}
+use Rattle.wb_explore.specs.Runs.{Runs, AreTalks, Comes, point_in}
 use Rattle.wb_explore.specs.Entries.{View, IsAt, IsSound, AreSound, IsAtSome, IsAhead, Covered, Carries, Joins, FollowsOn, SaysPassing, IsLeast, IsOnly}
-use Rattle.wb_explore.proofs.Ways.{Leads, comes_on, one_chip, once, rank_grows, steps_on, step_comes, leads_past, next_point}
+use Rattle.wb_explore.proofs.Ways.{ranged, Leads, comes_on, one_chip, once, rank_grows, steps_on, step_comes, leads_past, next_point}
 
 module _ (laws : HeldLaws) (r : Runs) {E : Type 0} (v : View E) where
   -- of two entries joined
@@ -71,24 +71,24 @@ module _ (laws : HeldLaws) (r : Runs) {E : Type 0} (v : View E) where
   pub class_of : (e : E) (x : Class) (i : Assignment) (d : Chip) → IsAt v r i e d → class_at r.image r.pace (v.key e) ≡ x → DoesNext r.image r.pace d x
   class_of e x i d t q = (laws.tells r.image r.pace r.side r.kinds d x).0 (ap (class_at r.image r.pace) t.key ∙ q)
 
-  pub follows_at : (e n : E) → FollowsOn v r.image e n → (i : Assignment) → IsAssignment i → (d : Chip) → IsAt v r i e d → v.holds n i ≡ true → IsAt v r i n (stepped r.image d)
+  pub follows_at : AreTalks r → (e n : E) → FollowsOn v r.image e n → (i : Assignment) → IsAssignment i → (d : Chip) → Comes r i d → IsAt v r i e d → v.holds n i ≡ true → IsAt v r i n (stepped r.image d)
   unfolding stepped
-  follows_at e n f i a d t q = record {
+  follows_at talks e n f i a d come t q = record {
     holds = q;
-    stands = f.stands i a q d.machine t.stands;
+    stands = f.stands i a q d.machine (ranged laws r talks i a d come) t.stands;
     key =
         next_point laws r d
         ∙ (ap (point_stepped r.image (shown_of (next r.image d.machine))) t.key
-        ∙ sym (f.key i a q d.machine t.stands));
+        ∙ sym (f.key i a q d.machine (ranged laws r talks i a d come) t.stands));
   }
 
-  pub follows_sound : (e n : E) → class_at r.image r.pace (v.key e) ≡ class.GoesOn → FollowsOn v r.image e n → IsSound v r e → IsSound v r n
-  follows_sound e n g f s i a q =
+  pub follows_sound : AreTalks r → (e n : E) → class_at r.image r.pace (v.key e) ≡ class.GoesOn → FollowsOn v r.image e n → IsSound v r e → IsSound v r n
+  follows_sound talks e n g f s i a q =
       let t = s i a (f.holds i a q) in
       (
         stepped r.image t.0,
         step_comes laws r i t.0 t.1 (class_of e class.GoesOn i t.0 t.2 g),
-        follows_at e n f i a t.0 t.2 q,
+        follows_at talks e n f i a t.0 t.1 t.2 q,
       )
 
   -- of entries and what is covered

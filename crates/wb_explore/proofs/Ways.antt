@@ -16,7 +16,8 @@ use Rattle.wb_law.specs.Points.{IsInPace}
 use Rattle.wb_law.specs.Classes.{rank_at, DoesNext}
 use Rattle.wb_law.specs.declared.classes.Class.TheVariants as class
 use Rattle.wb_law.specs.Requests.{IsFresh}
-use Rattle.wb_explore.specs.Runs.{Runs, Begins, Comes, Asks, point_in}
+use Rattle.wb_machine.specs.State.{IsState}
+use Rattle.wb_explore.specs.Runs.{Runs, AreTalks, Begins, Comes, Asks, point_in}
 use Rattle.wb_explore.specs.HeldLaws.{HeldLaws}
 
 module _ (laws : HeldLaws) (r : Runs) where
@@ -103,3 +104,10 @@ module _ (laws : HeldLaws) (r : Runs) where
 
   pub fresh_asks : (i : Assignment) (c : Chip) → Comes r i c → rqm c.machine ≡ true → c.monitor.count ≡ 0 → Asks r i c
   fresh_asks i c h q n = laws.fresh_first r.image r.pace (r.talk i).start (r.talk i).accesses h.start c h.leads.0 h.begins h.leads.1 q n
+
+  -- its parts are in their ranges
+  pub ranged : AreTalks r → (i : Assignment) → IsAssignment i → (c : Chip) → Comes r i c → IsState c.machine
+  ranged t i a c h =
+      let d = t.talk i a in
+      subst (λ (x : Chip). IsState x.machine) h.leads.1
+      (laws.in_range r.image r.pace true (r.talk i).start (r.talk i).accesses h.start h.leads.0 d.start_in d.bytes_in h.begins)

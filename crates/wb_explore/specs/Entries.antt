@@ -2,10 +2,10 @@
 --
 -- What an entry is, is left open: a view says of each its point, under which inputs its condition is true, and for
 -- which machines it stands.
-use Rattle.std.specs.Prelude.{◌≡◌, ◌≢◌, ◌↔◌, ℕ, ◌≤◌, Bool, true, ◌||◌, Option, Some, List, [], ◌∷◌, ◌++◌, ◌⊎◌, AllPairs, Contains}
+use Rattle.std.specs.Prelude.{◌≡◌, ◌≢◌, ◌↔◌, ℕ, ◌≤◌, Bool, true, ◌||◌, Option, Some, List, [], ◌∷◌, ◌++◌, ◌⊎◌, Contains}
 use Rattle.wb_rom.specs.declared.images.Image.{Image}
 use Rattle.wb_term.specs.Inputs.{Assignment, IsAssignment}
-use Rattle.wb_machine.specs.State.{State}
+use Rattle.wb_machine.specs.State.{State, IsState}
 use Rattle.wb_machine.specs.Next.{next}
 use Rattle.wb_port.specs.declared.chips.Chip.{Chip}
 use Rattle.wb_port.specs.declared.points.Point.{Point}
@@ -59,8 +59,16 @@ Carries r v es w fs =
     (i : Assignment) → IsAssignment i → (c : Chip) → Comes r i c → IsAtSome v r es i c → IsAtSome w r fs i c
 
 -- no two entries have one point
-abbrev pub AreApart : {E : Type 0} → View E → List E → Type 0
-AreApart v es = AllPairs (λ a b. v.key a ≢ v.key b) es
+abbrev pub AreApart : {E : Type 0} → (E → Point) → List E → Type 0
+AreApart key [] = Unit {0}
+AreApart {E} key (e ∷ es) = ((f : E) → Contains es f → key e ≢ key f) × AreApart key es
+
+-- the first list without one of its entries is the second
+pub record Taken {E : Type 0} (old new : List E) (e : E) : Type 0 where
+  pub front : List E
+  pub back : List E
+  pub was : old ≡ front ++ e ∷ back
+  pub remains : new ≡ front ++ back
 
 -- one entry in place of two of one point: its condition is true where one of theirs is, and it stands for the
 -- machines of the first where that one's is true, else for those of the second
@@ -75,8 +83,8 @@ pub record Joins {E : Type 0} (v : View E) (one other joined : E) : Type 0 where
 -- the machines after the instruction, at their point
 pub record FollowsOn {E : Type 0} (v : View E) (image : Image) (e next_entry : E) : Type 0 where
   pub holds : (i : Assignment) → IsAssignment i → v.holds next_entry i ≡ true → v.holds e i ≡ true
-  pub stands : (i : Assignment) → IsAssignment i → v.holds next_entry i ≡ true → (m : State) → v.stands e i m → v.stands next_entry i (next image m)
-  pub key : (i : Assignment) → IsAssignment i → v.holds next_entry i ≡ true → (m : State) → v.stands e i m → v.key next_entry ≡ point_stepped image (shown_of (next image m)) (v.key e)
+  pub stands : (i : Assignment) → IsAssignment i → v.holds next_entry i ≡ true → (m : State) → IsState m → v.stands e i m → v.stands next_entry i (next image m)
+  pub key : (i : Assignment) → IsAssignment i → v.holds next_entry i ≡ true → (m : State) → IsState m → v.stands e i m → v.key next_entry ≡ point_stepped image (shown_of (next image m)) (v.key e)
 
 -- each witness is an assignment under which the condition is true
 abbrev pub AreWitnessed : {E : Type 0} → View E → List E → Type 0

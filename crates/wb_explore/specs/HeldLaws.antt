@@ -4,6 +4,7 @@ use Rattle.wb_law.specs.Points.{HeldChipsStayInPace, RanksRise, LastPointsArePas
 use Rattle.wb_law.specs.Requests.{RequestsAreOne, GivenChipsAreOne, LastAccessIsGivenAtARequest, FirstRequestsAreFresh, FreshRequestsAreFirst, RequestsAreOnTheWay}
 use Rattle.wb_law.specs.Runs.{HeldRunsStopBeforeOrAfter, ShorterRunsStopToo}
 use Rattle.wb_law.specs.Classes.{PointsTellWhatComes}
+use Rattle.wb_law.specs.Ranges.{StridingChipsStayInRange}
 
 -- the laws on held runs that the proofs here stand on
 pub record HeldLaws : Type 0 where
@@ -29,3 +30,4 @@ pub record HeldLaws : Type 0 where
   pub stop_where : HeldRunsStopBeforeOrAfter
   pub stop_shorter : ShorterRunsStopToo
   pub tells : PointsTellWhatComes
+  pub in_range : StridingChipsStayInRange

@@ -3,6 +3,7 @@ pub mod Faults
 pub mod Growth
 pub mod HeldLaws
 pub mod Layers
+pub mod Pending
 pub mod Plans
 pub mod Purses
 pub mod Runs

@@ -8,7 +8,7 @@ use Rattle.wb_port.specs.declared.accesses.Kind.{Kind}
 use Rattle.wb_port.specs.declared.chips.Chip.{Chip}
 use Rattle.wb_port.specs.declared.points.Point.{Point}
 use Rattle.wb_port.specs.Schedule.{powered}
-use Rattle.wb_port.specs.Talk.{Talk, kinds, IsTransfer}
+use Rattle.wb_port.specs.Talk.{Talk, kinds, IsTransfer, IsTalk}
 use Rattle.wb_port.specs.Points.{point_at}
 use Rattle.wb_law.specs.Course.{Given, AsksAfter}
 use Rattle.wb_law.specs.Strides.{LeadsTo}
@@ -21,10 +21,11 @@ pub record Runs : Type 0 where
   pub kinds : List Kind
   pub talk : Assignment → Talk
 
--- each dialogue has these kinds, and no status reads
-pub record AreTransfers (r : Runs) : Type 0 where
-  pub kinds : (i : Assignment) → IsAssignment i → kinds (r.talk i).accesses ≡ r.kinds
-  pub transfers : (i : Assignment) → IsAssignment i → All IsTransfer (r.talk i).accesses
+-- each dialogue has these kinds, no status reads, and bytes and words alone
+pub record AreTalks (r : Runs) : Type 0 where
+  pub kinds : (i : Assignment) → kinds (r.talk i).accesses ≡ r.kinds
+  pub transfers : (i : Assignment) → All IsTransfer (r.talk i).accesses
+  pub talk : (i : Assignment) → IsAssignment i → IsTalk (r.talk i)
 
 -- under the inputs, the chip is the one right after the last access
 abbrev pub Begins : Runs → Assignment → Chip → Type 0

@@ -9,6 +9,7 @@ use wb_law::{
     points_tell_what_comes, ranks_never_fall, ranks_rise, requests_are_on_the_way,
     requests_are_one, resting_chips_stay, shorter_runs_stop_too, stopped_chips_stay,
     strides_add_up, strides_are_one_walk, strides_begin_with_an_instruction,
+    striding_chips_stay_in_range,
 };
 
 /// The laws on held runs, together.
@@ -37,4 +38,5 @@ pub(crate) fn held_laws()
     held_runs_stop_before_or_after();
     shorter_runs_stop_too();
     points_tell_what_comes();
+    striding_chips_stay_in_range();
 }

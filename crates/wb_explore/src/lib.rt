@@ -2,12 +2,14 @@
 #![tactic(auto)]
 
 mod budget;
+mod entries;
 mod facts;
 mod faults;
 mod layer;
 mod plan;
 mod purse;
 mod reached;
+mod soon;
 
 pub use budget::Budget;
 pub use faults::{Asked, ExploreFault};

@@ -24,4 +24,5 @@ returns c = record {
   stop_where = c.held_runs_stop_before_or_after.ensures;
   stop_shorter = c.shorter_runs_stop_too.ensures;
   tells = c.points_tell_what_comes.ensures;
+  in_range = c.striding_chips_stay_in_range.ensures;
 }

@@ -1,0 +1,111 @@
+-- Pending entries: places that some held runs pass, from which the exploration has yet to go on.
+use Rattle.std.specs.Prelude.{◌≡◌, ◌≢◌, ℕ, ◌+◌, ◌≤◌, ◌<◌, Bool, true, false, is_some, Option, Some, None, List, [], ◌∷◌, ◌++◌, ◌⊎◌, length, slice_get, if◌then◌else◌, All, Contains}
+use Rattle.std.specs.List.{sum_by}
+use Rattle.wb_rom.specs.declared.images.Image.{Image}
+use Rattle.wb_term.specs.declared.nodes.BitId.{BitId}
+use Rattle.wb_term.specs.Inputs.{Assignment, IsAssignment}
+use Rattle.wb_term.specs.Terms.{Terms, HasBit}
+use Rattle.wb_term.specs.Values.{bit_value}
+use Rattle.wb_term.specs.Under.{HasOnly}
+use Rattle.wb_port.specs.declared.points.Point.{Point}
+use Rattle.wb_port.specs.NextPoint.{showing}
+use Rattle.wb_law.specs.Classes.{rank_at}
+use Rattle.wb_symstep.specs.State.{StandsFor, IsSymState, StateHasOnly}
+use Rattle.wb_point.specs.Shows.{shows}
+use Rattle.wb_point.specs.Dialogues.{normalised, dialogue_under}
+use Rattle.wb_explore.specs.declared.plan.Plan.{Plan}
+use Rattle.wb_explore.specs.declared.entries.Entry.{Entry}
+use Rattle.wb_explore.specs.declared.reached.ReachedPoint.{ReachedPoint}
+use Rattle.wb_explore.specs.Purses.{points_of}
+use Rattle.wb_explore.specs.Entries.{View, AreSound, AreApart, Carries}
+use Rattle.wb_explore.specs.Plans.{runs_of, is_chosen}
+use Rattle.wb_explore.specs.Layers.{AddsPassed}
+
+abbrev pub entry_key : Entry → Point
+entry_key e = e.key
+
+-- what pending entries say
+abbrev pub entry_view : Terms → View Entry
+entry_view g = record {
+  key = entry_key;
+  holds = λ e i. bit_value i g e.cond;
+  stands = λ e i m. StandsFor i g e.state m;
+  witness = λ e. e.witness;
+}
+
+-- inputs of a dialogue of the plan, under which the bit is true
+pub record IsWitness (g : Terms) (p : Plan) (cond : BitId) (w : Assignment) : Type 0 where
+  pub assignment : IsAssignment w
+  pub normal : normalised p.kinds p.power w ≡ w
+  pub reached : bit_value w g cond ≡ true
+
+-- an entry's terms are in the graph, over inputs that the dialogues choose alone; its point shows its state
+pub record IsEntry (g : Terms) (image : Image) (p : Plan) (e : Entry) : Type 0 where
+  pub state : IsSymState g e.state
+  pub cond : HasBit g e.cond
+  pub state_inputs : StateHasOnly g (is_chosen p.kinds p.power) e.state
+  pub cond_inputs : HasOnly g (is_chosen p.kinds p.power) e.cond.number
+  pub shown : showing (shows e.state) e.key ≡ e.key
+  pub side : e.key.side ≡ p.side
+  pub kinds : e.key.kinds ≡ p.kinds
+  pub count : e.key.count ≤ p.pace
+  pub rank : e.rank ≡ rank_at image p.pace e.key
+  pub witness : (w : Assignment) → e.witness ≡ Some w → IsWitness g p e.cond w
+
+-- some entry of the point has a witness
+pub record IsFound (es : List Entry) (key : Point) : Type 0 where
+  pub entry : Entry
+  pub listed : Contains es entry
+  pub same : entry.key ≡ key
+  pub found : is_some entry.witness ≡ true
+
+-- how many entries have a witness
+abbrev pub found_in : List Entry → ℕ
+found_in es = sum_by (λ (e : Entry). if is_some e.witness then 1 else 0) es
+
+-- What holds of all pending entries: no two have one point, where the condition of one is true a held run passes its
+-- point, and the points of those with a witness are in the purse.
+pub record ArePending (g : Terms) (image : Image) (p : Plan) (reached : List ReachedPoint) (es : List Entry) : Type 0 where
+  pub each : (e : Entry) → Contains es e → IsEntry g image p e
+  pub apart : AreApart entry_key es
+  pub sound : AreSound (entry_view g) (runs_of image p) es
+  pub known : (e : Entry) → Contains es e → is_some e.witness ≡ true → Contains (points_of reached) e.key
+
+-- a point is that of a pending entry with a witness; or it is behind: of a rank up to the bound, and of no entry
+abbrev pub IsPlaced : Image → Plan → List Entry → ℕ → Point → Type 0
+IsPlaced image p es bound x =
+    IsFound es x ⊎ ((rank_at image p.pace x ≤ bound) × ((e : Entry) → Contains es e → e.key ≢ x))
+
+-- each point of the plan in the purse is placed, and all entries are ahead
+pub record AreAhead (image : Image) (p : Plan) (reached : List ReachedPoint) (es : List Entry) (bound : ℕ) : Type 0 where
+  pub placed : (x : ReachedPoint) → Contains reached x → x.point.side ≡ p.side → x.point.kinds ≡ p.kinds → IsPlaced image p es bound x.point
+  pub ahead : (e : Entry) → Contains es e → bound ≤ e.rank
+
+-- An entry was put among others, alone or joined with that of its point.
+pub record IsPut (image : Image) (p : Plan) (g h : Terms) (before after : List ReachedPoint) (es : List Entry) (e : Entry) (fs : List Entry) : Type 0 where
+  pub pending : ArePending h image p after fs
+  pub carries : Carries (runs_of image p) (entry_view g) (es ++ e ∷ []) (entry_view h) fs
+  pub ahead : (bound : ℕ) → AreAhead image p before es bound → bound < e.rank → AreAhead image p after fs bound
+  pub adds : AddsPassed image p before after
+  pub count : length before + found_in fs ≤ length after + found_in es
+  pub longer : length fs ≤ length es + 1
+
+-- the place has this point; or none has
+abbrev pub IsPlaceOf : List Entry → Point → Option ℕ → Type 0
+IsPlaceOf es key (Some n) = (n < length es) × ((e : Entry) → slice_get es n ≡ Some e → e.key ≡ key)
+IsPlaceOf es key None = All (λ e. e.key ≢ key) es
+
+-- the points with that of an entry at their end, where inputs of it are newly found
+abbrev pub with_noted : Plan → Point → Option Assignment → List ReachedPoint → List ReachedPoint
+with_noted p key None before = before
+with_noted p key (Some w) before = before ++ record { point = key; dialogue = dialogue_under p.kinds w p.power } ∷ []
+
+-- the inputs of the first, or else of the second
+abbrev pub either : Option Assignment → Option Assignment → Option Assignment
+either None other = other
+either (Some w) other = Some w
+
+-- the inputs of the first, where the second has none
+abbrev pub newly : Option Assignment → Option Assignment → Option Assignment
+newly (Some w) None = Some w
+newly _ _ = None
