@@ -4,3 +4,6 @@ pub mod Ending
 pub mod Growing
 pub mod Lists
 pub mod Putting
+pub mod Joining
+pub mod Growth
+pub mod Refusals

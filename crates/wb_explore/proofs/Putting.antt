@@ -171,7 +171,7 @@ module _ (laws : HeldLaws) (kinds_law : DialoguesAreOfTheirKinds) (keeps : Growt
   newly_either (Some w) (Some u) q = absurd (both_ways false refl q)
   newly_either None n q = absurd (both_ways false refl q)
 
-  newly_first : (o n : Option Assignment) (w : Assignment) → newly o n ≡ Some w → o ≡ Some w
+  pub newly_first : (o n : Option Assignment) (w : Assignment) → newly o n ≡ Some w → o ≡ Some w
   newly_first (Some w) None u q = q
   newly_first (Some w) (Some v) u q = absurd (let e = q in cc)
   newly_first None n u q = absurd (let e = q in cc)

@@ -1,5 +1,5 @@
 -- Pending entries: places that some held runs pass, from which the exploration has yet to go on.
-use Rattle.std.specs.Prelude.{◌≡◌, ◌≢◌, ℕ, ◌+◌, ◌≤◌, ◌<◌, Bool, true, false, is_some, Option, Some, None, List, [], ◌∷◌, ◌++◌, ◌⊎◌, length, slice_get, if◌then◌else◌, All, Contains}
+use Rattle.std.specs.Prelude.{◌≡◌, ◌≢◌, ℕ, ◌+◌, ◌≤◌, ◌<◌, Bool, true, false, is_some, Option, Some, None, List, [], ◌∷◌, ◌++◌, ◌⊎◌, length, slice_index_or, if◌then◌else◌, All, Contains}
 use Rattle.std.specs.List.{sum_by}
 use Rattle.wb_rom.specs.declared.images.Image.{Image}
 use Rattle.wb_term.specs.declared.nodes.BitId.{BitId}
@@ -16,8 +16,11 @@ use Rattle.wb_point.specs.Dialogues.{normalised, dialogue_under}
 use Rattle.wb_explore.specs.declared.plan.Plan.{Plan}
 use Rattle.wb_explore.specs.declared.entries.Entry.{Entry}
 use Rattle.wb_explore.specs.declared.reached.ReachedPoint.{ReachedPoint}
-use Rattle.wb_explore.specs.Purses.{points_of}
-use Rattle.wb_explore.specs.Entries.{View, AreSound, AreApart, Carries}
+use Rattle.wb_explore.specs.declared.faults.ExploreFault.{ExploreFault}
+use Rattle.wb_explore.specs.declared.faults.ExploreFault.TheVariants as fault
+use Rattle.wb_explore.specs.Purses.{Holding, points_of}
+use Rattle.wb_explore.specs.Faults.{AreTooMany}
+use Rattle.wb_explore.specs.Entries.{View, AreSound, AreApart, Carries, Joins}
 use Rattle.wb_explore.specs.Plans.{runs_of, is_chosen}
 use Rattle.wb_explore.specs.Layers.{AddsPassed}
 
@@ -92,7 +95,7 @@ pub record IsPut (image : Image) (p : Plan) (g h : Terms) (before after : List R
 
 -- the place has this point; or none has
 abbrev pub IsPlaceOf : List Entry → Point → Option ℕ → Type 0
-IsPlaceOf es key (Some n) = (n < length es) × ((e : Entry) → slice_get es n ≡ Some e → e.key ≡ key)
+IsPlaceOf es key (Some n) = (n < length es) × ((e : Entry) → (slice_index_or es n e).key ≡ key)
 IsPlaceOf es key None = All (λ e. e.key ≢ key) es
 
 -- the points with that of an entry at their end, where inputs of it are newly found
@@ -109,3 +112,32 @@ either (Some w) other = Some w
 abbrev pub newly : Option Assignment → Option Assignment → Option Assignment
 newly (Some w) None = Some w
 newly _ _ = None
+
+-- why a point isn't noted: the purse is full; or want of memory
+abbrev pub IsUnnoted : Holding → ReachedPoint → ExploreFault → Type 0
+IsUnnoted before x (fault.Points list) = (list ≡ before.reached ++ x ∷ []) × (length before.reached ≡ before.budget.points)
+IsUnnoted before x fault.OutOfMemory = Unit {0}
+IsUnnoted before x _ = ⊥
+
+-- an entry that joins two of one point was put at the end
+pub record IsMet (g : Terms) (image : Image) (p : Plan) (e other : Entry) (rest new : List Entry) : Type 0 where
+  pub joined : Entry
+  pub put : new ≡ rest ++ joined ∷ []
+  pub entry : IsEntry g image p joined
+  pub joins : Joins (entry_view g) e other joined
+  pub witness : joined.witness ≡ either e.witness other.witness
+
+-- why a point isn't noted where inputs of it may be newly found
+abbrev pub IsUnmet : Plan → Holding → Point → Option Assignment → ExploreFault → Type 0
+IsUnmet p before key (Some w) e = IsUnnoted before (record { point = key; dialogue = dialogue_under p.kinds w p.power }) e
+IsUnmet p before key None e = e ≡ fault.OutOfMemory
+
+-- a purse is as before, or the point is noted in it
+abbrev pub IsNotedOrNot : Plan → Point → Option Assignment → Holding → Holding → Type 0
+IsNotedOrNot p key o before after = (after ≡ before) ⊎ (after ≡ record before { reached = with_noted p key o before.reached })
+
+-- why an entry isn't put: the purse is full, and the entry's point is new; or want of memory
+abbrev pub IsUnput : Image → Plan → Holding → ExploreFault → Type 0
+IsUnput image p before (fault.Points list) = AreTooMany image p before list
+IsUnput image p before fault.OutOfMemory = Unit {0}
+IsUnput image p before _ = ⊥

@@ -1,5 +1,5 @@
 use crate::reached::Reached;
-use std::alloc::Global;
+use std::alloc::AllocFailed;
 use wb_blast::Blasted;
 use wb_derive::Derivation;
 use wb_point::Query;
@@ -29,7 +29,23 @@ pub enum ExploreFault {
 }
 
 impl From<OutOfMemory> for ExploreFault {
+    ghost use Rattle.std.specs.Prelude.{◌≡◌};
+    ghost use Rattle.wb_explore.specs.declared.faults.ExploreFault.TheVariants as fault;
+
+    ghost from_gives = { λ _ e. e ≡ fault.OutOfMemory };
+
     fn from(_: OutOfMemory) -> Self {
+        ExploreFault::OutOfMemory
+    }
+}
+
+impl<T: Drop> From<AllocFailed<T>> for ExploreFault {
+    ghost use Rattle.std.specs.Prelude.{◌≡◌};
+    ghost use Rattle.wb_explore.specs.declared.faults.ExploreFault.TheVariants as fault;
+
+    ghost from_gives = { λ _ e. e ≡ fault.OutOfMemory };
+
+    fn from(_: AllocFailed<T>) -> Self {
         ExploreFault::OutOfMemory
     }
 }

@@ -1,6 +1,7 @@
 //! The explorer: from power-up it follows one side through every dialogue of some kinds at once.
 #![tactic(auto)]
 
+mod arrivals;
 mod budget;
 mod entries;
 mod facts;
