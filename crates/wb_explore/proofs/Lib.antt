@@ -7,3 +7,4 @@ pub mod Putting
 pub mod Joining
 pub mod Growth
 pub mod Refusals
+pub mod Onward

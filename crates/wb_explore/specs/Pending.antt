@@ -8,7 +8,11 @@ use Rattle.wb_term.specs.Terms.{Terms, HasBit}
 use Rattle.wb_term.specs.Values.{bit_value}
 use Rattle.wb_term.specs.Under.{HasOnly}
 use Rattle.wb_port.specs.declared.points.Point.{Point}
-use Rattle.wb_port.specs.NextPoint.{showing}
+use Rattle.wb_port.specs.declared.chips.Chip.{Chip}
+use Rattle.wb_machine.specs.State.{State}
+use Rattle.wb_port.specs.Monitor.{stepped}
+use Rattle.wb_port.specs.NextPoint.{showing, shown_of, point_stepped}
+use Rattle.wb_symstep.specs.declared.state.SymState.{SymState}
 use Rattle.wb_law.specs.Classes.{rank_at}
 use Rattle.wb_symstep.specs.State.{StandsFor, IsSymState, StateHasOnly}
 use Rattle.wb_point.specs.Shows.{shows}
@@ -20,7 +24,8 @@ use Rattle.wb_explore.specs.declared.faults.ExploreFault.{ExploreFault}
 use Rattle.wb_explore.specs.declared.faults.ExploreFault.TheVariants as fault
 use Rattle.wb_explore.specs.Purses.{Holding, points_of}
 use Rattle.wb_explore.specs.Faults.{AreTooMany}
-use Rattle.wb_explore.specs.Entries.{View, AreSound, AreApart, Carries, Joins}
+use Rattle.wb_explore.specs.Entries.{View, IsAt, IsAtSome, AreSound, AreApart, Carries, Joins, FollowsOn}
+use Rattle.wb_explore.specs.Runs.{Comes}
 use Rattle.wb_explore.specs.Plans.{runs_of, is_chosen}
 use Rattle.wb_explore.specs.Layers.{AddsPassed}
 
@@ -141,3 +146,40 @@ abbrev pub IsUnput : Image → Plan → Holding → ExploreFault → Type 0
 IsUnput image p before (fault.Points list) = AreTooMany image p before list
 IsUnput image p before fault.OutOfMemory = Unit {0}
 IsUnput image p before _ = ⊥
+
+-- a chip at which the entry is has a rank above the bound
+abbrev pub IsAbove : Terms → Image → Plan → ℕ → Entry → Type 0
+IsAbove g image p bound e =
+    (i : Assignment) → IsAssignment i → (c : Chip) → Comes (runs_of image p) i c → IsAt (entry_view g) (runs_of image p) i e c → bound < e.rank
+
+-- an entry above the bound was put among those ahead of it, or it is at no chip
+pub record IsPutAhead (image : Image) (p : Plan) (g h : Terms) (before after : List ReachedPoint) (es : List Entry) (e : Entry) (bound : ℕ) (fs : List Entry) : Type 0 where
+  pub pending : ArePending h image p after fs
+  pub carries : Carries (runs_of image p) (entry_view g) (es ++ e ∷ []) (entry_view h) fs
+  pub ahead : AreAhead image p after fs bound
+  pub count : length before + found_in fs ≤ length after + found_in es
+  pub longer : length fs ≤ length es + 1
+
+-- the entry that comes of another by one instruction, which leaves this state, where the condition is this one
+pub record IsNext (image : Image) (p : Plan) (e : Entry) (s : SymState) (cond : BitId) (w : Option Assignment) (n : Entry) : Type 0 where
+  pub key : n.key ≡ point_stepped image (shows s) e.key
+  pub rank : n.rank ≡ rank_at image p.pace n.key
+  pub state : n.state ≡ s
+  pub cond : n.cond ≡ cond
+  pub witness : n.witness ≡ w
+  pub shows : (inputs : Assignment) (g : Terms) (m : State) → StandsFor inputs g s m → shows s ≡ shown_of m
+
+-- what comes of an entry by one instruction: wherever its condition is true, that of one of them is
+pub record AreArrivals (g : Terms) (image : Image) (p : Plan) (e : Entry) (ns : List Entry) : Type 0 where
+  pub each : (n : Entry) → Contains ns n → IsEntry g image p n
+  pub follow : (n : Entry) → Contains ns n → FollowsOn (entry_view g) image e n
+  pub some : (i : Assignment) → IsAssignment i → bit_value i g e.cond ≡ true → (n : Entry) × Contains ns n × (bit_value i g n.cond ≡ true)
+
+-- The exploration went on from an entry: what comes of it was put among the others.
+pub record IsGoneOn (image : Image) (p : Plan) (g h : Terms) (before after : List ReachedPoint) (es : List Entry) (e : Entry) (fs : List Entry) : Type 0 where
+  pub pending : ArePending h image p after fs
+  pub ahead : AreAhead image p after fs e.rank
+  pub carries : Carries (runs_of image p) (entry_view g) es (entry_view h) fs
+  pub arrives : (i : Assignment) → IsAssignment i → (d : Chip) → Comes (runs_of image p) i d → IsAt (entry_view g) (runs_of image p) i e d → IsAtSome (entry_view h) (runs_of image p) fs i (stepped image d)
+  pub count : length before + found_in fs ≤ length after + found_in es
+  pub longer : length fs ≤ length es + 2

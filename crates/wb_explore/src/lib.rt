@@ -6,6 +6,7 @@ mod budget;
 mod entries;
 mod facts;
 mod faults;
+mod going;
 mod layer;
 mod plan;
 mod purse;

@@ -1,0 +1,144 @@
+-- The exploration goes on from an entry.
+use Rattle.std.proofs.Common.{◌≡◌, ◌≢◌, ℕ, ◌+◌, ◌<◌, ◌≤◌, Bool, true, false, Option, Some, None, List, [], ◌∷◌, ◌++◌, ◌⊎◌, inl, inr, length, refl, sym, ap, subst, ◌∙◌, arith, append-nil}
+use Rattle.std.specs.Prelude.{Contains, All, is_some}
+use Rattle.std.proofs.lemmas.Bool.{both_ways}
+use Rattle.std.specs.Prelude.{slice_index_or}
+use Rattle.std.proofs.lemmas.List.{get_or_default, append_assoc}
+use Rattle.std.proofs.lemmas.List.Elements.{Contains-append_left, Contains-append_cases, Contains-push_cases}
+use Rattle.wb_rom.specs.declared.images.Image.{Image}
+use Rattle.wb_term.specs.Inputs.{Assignment, IsAssignment}
+use Rattle.wb_term.specs.Terms.{Terms}
+use Rattle.wb_term.specs.Growth.{Grown, AddsAtMost, total_weight}
+use Rattle.wb_port.specs.declared.chips.Chip.{Chip}
+use Rattle.wb_port.specs.declared.points.Point.{Point}
+use Rattle.wb_port.specs.Monitor.{stepped}
+use Rattle.wb_port.specs.Rank.{rank_of}
+use Rattle.wb_law.specs.declared.classes.Class.TheVariants as class
+use Rattle.wb_law.specs.Classes.{class_at, rank_at}
+use Rattle.wb_symstep.specs.Laws.{GrowthKeepsStates}
+use Rattle.wb_explore.specs.declared.plan.Plan.{Plan}
+use Rattle.wb_explore.specs.declared.entries.Entry.{Entry}
+use Rattle.wb_explore.specs.declared.reached.ReachedPoint.{ReachedPoint}
+use Rattle.wb_explore.specs.HeldLaws.{HeldLaws}
+use Rattle.wb_explore.specs.Runs.{Runs, AreTalks, Comes, point_in}
+use Rattle.wb_explore.specs.Entries.{IsAt, IsSound, IsAtSome, Carries, FollowsOn, Taken}
+use Rattle.wb_explore.specs.Plans.{runs_of}
+use Rattle.wb_explore.specs.Layers.{AddsPassed}
+use Rattle.wb_explore.specs.Pending.{entry_key, entry_view, IsEntry, IsFound, ArePending, IsPlaced, AreAhead, IsPut, IsPutAhead, IsAbove, AreArrivals, IsGoneOn}
+use Rattle.wb_explore.proofs.Ways.{one_chip, rank_rises, step_comes}
+use Rattle.wb_explore.proofs.Covering.{class_of, follows_at, follows_sound}
+use Rattle.wb_explore.proofs.Growing.{entry_grown, at_grown, sound_grown, carries_grown, pending_grown}
+use Rattle.wb_explore.proofs.Lists.{from_all, taken_itself, taken_back, taken_cases, apart_taken}
+
+-- additions add up
+pub adds_on : {f g h : Terms} (a b c d : ℕ) → AddsAtMost f g a c → AddsAtMost g h b d → AddsAtMost f h (a + b) (c + d)
+adds_on {f} {g} {h} a b c d x y = record {
+  longer_by = let p = x.longer_by in let q = y.longer_by in omega arith;
+  heavier_by = let p = x.heavier_by in let q = y.heavier_by in omega arith;
+}
+
+-- a graph that stays adds nothing
+pub adds_none : (g : Terms) (a c : ℕ) → AddsAtMost g g a c
+adds_none g a c = record { longer_by = omega arith; heavier_by = omega arith }
+
+module _ (image : Image) (p : Plan) where
+  -- a point above the bound is in the purse only where an entry of it has a witness
+  pub ahead_fresh : (g : Terms) (reached : List ReachedPoint) (es : List Entry) (bound : ℕ) (e : Entry) → IsEntry g image p e → AreAhead image p reached es bound → bound < e.rank
+      → All (λ (r : ReachedPoint). r.point ≡ e.key → IsFound es e.key) reached
+  ahead_fresh g reached es bound e x h less k d inside q = by_place (h.placed r listed (ap (λ (y : Point). y.side) q ∙ x.side) (ap (λ (y : Point). y.kinds) q ∙ x.kinds))
+    where
+      r : ReachedPoint
+      r = slice_index_or reached k d
+
+      listed : Contains reached r
+      listed = (k, inside, get_or_default reached k r d inside)
+
+      by_place : IsPlaced image p es bound r.point → IsFound es e.key
+      by_place (inl f) = subst (IsFound es) q f
+      by_place (inr (low, none)) = let l = ap (rank_at image p.pace) q in let m = x.rank in absurd (omega arith)
+
+  -- an entry that isn't above is at no chip
+  pub left_out : (keeps : GrowthKeepsStates) (g : Terms) (reached : List ReachedPoint) (es : List Entry) (bound : ℕ) (e : Entry) → ArePending g image p reached es → AreAhead image p reached es bound → IsAbove g image p bound e → (bound < e.rank → ⊥)
+      → IsPutAhead image p g g reached reached es e bound es
+  left_out keeps g reached es bound e a h above not = record {
+    pending = a;
+    carries = λ i b c come t. by_entry i b c come t (Contains-push_cases es e t.entry t.listed);
+    ahead = h;
+    count = omega arith;
+    longer = omega arith;
+  }
+    where
+      by_entry : (i : Assignment) → IsAssignment i → (c : Chip) → Comes (runs_of image p) i c → (t : IsAtSome (entry_view g) (runs_of image p) (es ++ e ∷ []) i c) → Contains es t.entry ⊎ (e ≡ t.entry) → IsAtSome (entry_view g) (runs_of image p) es i c
+      by_entry i b c come t (inl d) = record { entry = t.entry; listed = d; is_at = t.is_at }
+      by_entry i b c come t (inr q) = absurd (not (above i b c come (subst (λ (n : Entry). IsAt (entry_view g) (runs_of image p) i n c) (sym q) t.is_at)))
+
+  pub put_ahead : (g h : Terms) (before after : List ReachedPoint) (es fs : List Entry) (e : Entry) (bound : ℕ) → AreAhead image p before es bound → bound < e.rank → IsPut image p g h before after es e fs → IsPutAhead image p g h before after es e bound fs
+  put_ahead g h before after es fs e bound k less put = record {
+    pending = put.pending;
+    carries = put.carries;
+    ahead = put.ahead bound k less;
+    count = put.count;
+    longer = put.longer;
+  }
+
+  -- what is left when the entry of least rank was taken is ahead of it
+  pub taken_ahead : (g : Terms) (reached : List ReachedPoint) (es rest : List Entry) (bound : ℕ) (e : Entry) → ArePending g image p reached es → AreAhead image p reached es bound → Taken es rest e
+      → All (λ (f : Entry). e.rank ≤ f.rank) es → AreAhead image p reached rest e.rank
+  taken_ahead g reached es rest bound e a h taken least = record {
+    placed = λ r c side kinds. placed r.point (h.placed r c side kinds);
+    ahead = λ f c. from_all (λ (n : Entry). e.rank ≤ n.rank) es f least (taken_back es rest e f taken c);
+  }
+    where
+      here : Contains es e
+      here = taken_itself es rest e taken
+
+      apart : (f : Entry) → Contains rest f → e.key ≢ f.key
+      apart = (apart_taken entry_key es rest e taken a.apart).1
+
+      found : (x : Point) → (f : IsFound es x) → (f.entry ≡ e) ⊎ Contains rest f.entry → IsPlaced image p rest e.rank x
+      found x f (inl q) =
+          let k : e.key ≡ x = ap (λ (n : Entry). n.key) (sym q) ∙ f.same in
+          let l = ap (rank_at image p.pace) k in
+          let m = (a.each e here).rank in
+          inr (omega arith, λ n c s. apart n c (k ∙ sym s))
+      found x f (inr d) = inl (record { entry = f.entry; listed = d; same = f.same; found = f.found })
+
+      placed : (x : Point) → IsPlaced image p es bound x → IsPlaced image p rest e.rank x
+      placed x (inl f) = found x f (taken_cases es rest e f.entry taken f.listed)
+      placed x (inr (low, none)) = let up = h.ahead e here in inr (omega arith, λ n c. none n (taken_back es rest e n taken c))
+
+  -- points that were added one after the other
+  pub adds_passed : (a b c : List ReachedPoint) → AddsPassed image p a b → AddsPassed image p b c → AddsPassed image p a c
+  adds_passed a b c x y = record {
+    added = x.added ++ y.added;
+    after = y.after ∙ (ap (λ (l : List ReachedPoint). l ++ y.added) x.after ∙ append_assoc a x.added y.added);
+    passed = λ r d. elim (Contains-append_cases x.added y.added r d) [ inl f ↦ x.passed r f | inr f ↦ y.passed r f ];
+  }
+
+module _ (laws : HeldLaws) (talks : (image : Image) (p : Plan) → AreTalks (runs_of image p)) (keeps : GrowthKeepsStates) (image : Image) (p : Plan) (g : Terms) (e : Entry) (x : IsEntry g image p e) (s : IsSound (entry_view g) (runs_of image p) e) (goes : class_at image p.pace e.key ≡ class.GoesOn) where
+  -- what comes of an entry is above it
+  pub follows_above : (n : Entry) → IsEntry g image p n → FollowsOn (entry_view g) image e n → IsAbove g image p e.rank n
+  follows_above n y f i a c come t =
+      let d = s i a (f.holds i a t.holds) in
+      let next = follows_at laws (runs_of image p) (entry_view g) (talks image p) e n f i a d.0 d.1 d.2 t.holds in
+      let on = class_of laws (runs_of image p) (entry_view g) e class.GoesOn i d.0 d.2 goes in
+      let next_comes = step_comes laws (runs_of image p) i d.0 d.1 on in
+      let up = rank_rises laws (runs_of image p) i d.0 d.1 on in
+      let l : rank_of image p.pace d.0 ≡ rank_at image p.pace e.key = ap (rank_at image p.pace) d.2.key in
+      let m : rank_of image p.pace (stepped image d.0) ≡ rank_at image p.pace n.key = ap (rank_at image p.pace) next.key in
+      let q = x.rank in
+      let r = y.rank in
+      omega arith
+
+  pub arrival_sound : (n : Entry) → FollowsOn (entry_view g) image e n → IsSound (entry_view g) (runs_of image p) n
+  arrival_sound n f = follows_sound laws (runs_of image p) (entry_view g) (talks image p) e n goes f s
+
+  -- at the next chip is what comes of the entry
+  pub arrival_at : (ns : List Entry) → AreArrivals g image p e ns → (i : Assignment) → IsAssignment i → (d : Chip) → Comes (runs_of image p) i d → IsAt (entry_view g) (runs_of image p) i e d → IsAtSome (entry_view g) (runs_of image p) ns i (stepped image d)
+  arrival_at ns are i a d come t =
+      let n = are.some i a t.holds in
+      record {
+        entry = n.0;
+        listed = n.1;
+        is_at = follows_at laws (runs_of image p) (entry_view g) (talks image p) e n.0 (are.follow n.0 n.1) i a d come t n.2;
+      }
