@@ -1,0 +1,4 @@
+pub mod Answered
+pub mod Bits
+pub mod Clauses
+pub mod Filled
