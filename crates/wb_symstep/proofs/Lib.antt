@@ -1,1 +1,14 @@
 pub mod States
+pub mod BitLaws
+pub mod Meanings
+pub mod Parts
+pub mod Reading
+pub mod Growth
+pub mod Working
+pub mod Storing
+pub mod Moving
+pub mod Assembling
+pub mod Testing
+pub mod Jumping
+pub mod Stepping
+pub mod Starting

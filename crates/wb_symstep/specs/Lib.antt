@@ -1,4 +1,7 @@
 pub mod State
 pub mod Stepped
 pub mod Laws
-pub mod Standing
+pub mod Parts
+pub mod Assembled
+pub mod Tested
+pub mod Starts

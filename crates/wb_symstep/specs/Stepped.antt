@@ -12,7 +12,7 @@ use Rattle.wb_term.specs.Inputs.{Assignment, IsAssignment}
 use Rattle.wb_term.specs.Terms.{Terms, HasBit}
 use Rattle.wb_term.specs.Values.{bit_value}
 use Rattle.wb_term.specs.Under.{HasOnly}
-use Rattle.wb_machine.specs.State.{State}
+use Rattle.wb_machine.specs.State.{State, IsState}
 use Rattle.wb_machine.specs.Next.{taken}
 use Rattle.wb_symstep.specs.declared.state.SymState.{SymState}
 use Rattle.wb_symstep.specs.declared.stepped.Stepped.{Stepped}
@@ -55,18 +55,16 @@ tests_terms (cond.Other code) = false
 tests_terms _ = true
 
 -- the bit says whether a jump with this condition is taken by the machine that the state stands for
-abbrev pub SaysTaken : Terms → Terms → SymState → Cond → BitId → Type 0
-SaysTaken old new s c says =
-    (inputs : Assignment) → IsAssignment inputs → (m : State) → StandsFor inputs old s m
-    → bit_value inputs new says ≡ taken c m.regs
+abbrev pub SaysTaken : Terms → SymState → Cond → BitId → Type 0
+SaysTaken g s c says =
+    (inputs : Assignment) (m : State) → IsAssignment inputs → IsState m → StandsFor inputs g s m → bit_value inputs g says ≡ taken c m.regs
 
 -- The instruction is a jump on terms, and the bit is its condition and no constant node.
-abbrev pub IsOpenJump : Terms → Terms → SymState → Instr → BitId → Type 0
-IsOpenJump old new s (Jp c na spare) says =
-    (tests_terms c ≡ true) × SaysTaken old new s c says × (is_known (slice_get new.nodes says.number) ≡ false)
-IsOpenJump old new s _ says = ⊥
+abbrev pub IsOpenJump : Terms → SymState → Instr → BitId → Type 0
+IsOpenJump g s (Jp c na spare) says = (tests_terms c ≡ true) × SaysTaken g s c says × (is_known (slice_get g.nodes says.number) ≡ false)
+IsOpenJump g s _ says = ⊥
 
 -- a fork comes at such an instruction alone
-abbrev pub ForksAtOpenJump : Terms → Terms → SymState → Instr → Stepped → Type 0
-ForksAtOpenJump old new s i (One next) = Unit {0}
-ForksAtOpenJump old new s i (Fork c first second) = IsOpenJump old new s i c
+abbrev pub ForksAtOpenJump : Terms → SymState → Instr → Stepped → Type 0
+ForksAtOpenJump g s i (One next) = Unit {0}
+ForksAtOpenJump g s i (Fork c first second) = IsOpenJump g s i c
