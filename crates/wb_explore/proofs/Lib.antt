@@ -8,3 +8,4 @@ pub mod Joining
 pub mod Growth
 pub mod Refusals
 pub mod Onward
+pub mod Following

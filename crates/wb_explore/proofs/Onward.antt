@@ -58,9 +58,9 @@ module _ (image : Image) (p : Plan) where
       by_place (inr (low, none)) = let l = ap (rank_at image p.pace) q in let m = x.rank in absurd (omega arith)
 
   -- an entry that isn't above is at no chip
-  pub left_out : (keeps : GrowthKeepsStates) (g : Terms) (reached : List ReachedPoint) (es : List Entry) (bound : ℕ) (e : Entry) → ArePending g image p reached es → AreAhead image p reached es bound → IsAbove g image p bound e → (bound < e.rank → ⊥)
+  pub left_out : (g : Terms) (reached : List ReachedPoint) (es : List Entry) (bound : ℕ) (e : Entry) → ArePending g image p reached es → AreAhead image p reached es bound → IsAbove g image p bound e → (bound < e.rank → ⊥)
       → IsPutAhead image p g g reached reached es e bound es
-  left_out keeps g reached es bound e a h above not = record {
+  left_out g reached es bound e a h above not = record {
     pending = a;
     carries = λ i b c come t. by_entry i b c come t (Contains-push_cases es e t.entry t.listed);
     ahead = h;

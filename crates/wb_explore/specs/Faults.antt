@@ -10,7 +10,7 @@ use Rattle.wb_port.specs.declared.points.Point.{Point}
 use Rattle.wb_port.specs.Talk.{Talk}
 use Rattle.wb_port.specs.Verdicts.{Breaks}
 use Rattle.wb_solve.specs.Answers.{IsSpent}
-use Rattle.wb_query.specs.Asking.{IsBad}
+use Rattle.wb_query.specs.Asking.{IsWrong}
 use Rattle.wb_point.specs.Says.{Says}
 use Rattle.wb_explore.specs.declared.plan.Plan.{Plan}
 use Rattle.wb_explore.specs.declared.reached.ReachedPoint.{ReachedPoint}
@@ -48,5 +48,5 @@ IsCause image p sound before (fault.Points list) = AreTooMany image p before lis
 IsCause image p sound before (fault.Conflicts asked steps) =
     IsAsked image p asked × IsSpent asked.blasted.formula before.budget.conflicts steps × (sound ≡ true)
 IsCause image p sound before (fault.BadAnswer asked answer) =
-    IsAsked image p asked × IsBad asked.blasted.formula answer × (sound ≡ false)
+    IsAsked image p asked × IsWrong asked.blasted.formula answer × (sound ≡ false)
 IsCause image p sound before fault.OutOfMemory = Unit {0}

@@ -9,16 +9,21 @@ use Rattle.wb_term.specs.Values.{bit_value}
 use Rattle.wb_term.specs.Under.{HasOnly}
 use Rattle.wb_port.specs.declared.points.Point.{Point}
 use Rattle.wb_port.specs.declared.chips.Chip.{Chip}
-use Rattle.wb_machine.specs.State.{State}
+use Rattle.wb_machine.specs.State.{State, IsState}
+use Rattle.wb_machine.specs.Next.{next}
 use Rattle.wb_port.specs.Monitor.{stepped}
 use Rattle.wb_port.specs.NextPoint.{showing, shown_of, point_stepped}
 use Rattle.wb_symstep.specs.declared.state.SymState.{SymState}
 use Rattle.wb_law.specs.Classes.{rank_at}
 use Rattle.wb_symstep.specs.State.{StandsFor, IsSymState, StateHasOnly}
+use Rattle.wb_symstep.specs.declared.stepped.Stepped.{Stepped}
+use Rattle.wb_symstep.specs.Stepped.{chosen}
 use Rattle.wb_point.specs.Shows.{shows}
 use Rattle.wb_point.specs.Dialogues.{normalised, dialogue_under}
 use Rattle.wb_explore.specs.declared.plan.Plan.{Plan}
 use Rattle.wb_explore.specs.declared.entries.Entry.{Entry}
+use Rattle.wb_explore.specs.declared.going.Arrivals.{Arrivals}
+use Rattle.wb_explore.specs.declared.going.Arrivals.TheVariants as arrivals
 use Rattle.wb_explore.specs.declared.reached.ReachedPoint.{ReachedPoint}
 use Rattle.wb_explore.specs.declared.faults.ExploreFault.{ExploreFault}
 use Rattle.wb_explore.specs.declared.faults.ExploreFault.TheVariants as fault
@@ -161,11 +166,11 @@ pub record IsPutAhead (image : Image) (p : Plan) (g h : Terms) (before after : L
   pub longer : length fs ≤ length es + 1
 
 -- the entry that comes of another by one instruction, which leaves this state, where the condition is this one
-pub record IsNext (image : Image) (p : Plan) (e : Entry) (s : SymState) (cond : BitId) (w : Option Assignment) (n : Entry) : Type 0 where
+pub record IsNext (image : Image) (p : Plan) (e : Entry) (s : SymState) (c : BitId) (w : Option Assignment) (n : Entry) : Type 0 where
   pub key : n.key ≡ point_stepped image (shows s) e.key
   pub rank : n.rank ≡ rank_at image p.pace n.key
   pub state : n.state ≡ s
-  pub cond : n.cond ≡ cond
+  pub cond : n.cond ≡ c
   pub witness : n.witness ≡ w
   pub shows : (inputs : Assignment) (g : Terms) (m : State) → StandsFor inputs g s m → shows s ≡ shown_of m
 
@@ -183,3 +188,30 @@ pub record IsGoneOn (image : Image) (p : Plan) (g h : Terms) (before after : Lis
   pub arrives : (i : Assignment) → IsAssignment i → (d : Chip) → Comes (runs_of image p) i d → IsAt (entry_view g) (runs_of image p) i e d → IsAtSome (entry_view h) (runs_of image p) fs i (stepped image d)
   pub count : length before + found_in fs ≤ length after + found_in es
   pub longer : length fs ≤ length es + 2
+
+-- The first inherits the inputs where its bit is true under them, else the second does.
+pub record AreHeirs (g : Terms) (first : BitId) (w one other : Option Assignment) : Type 0 where
+  pub to_first : (u : Assignment) → one ≡ Some u → (w ≡ Some u) × (bit_value u g first ≡ true)
+  pub to_second : (u : Assignment) → other ≡ Some u → (w ≡ Some u) × (bit_value u g first ≢ true)
+
+-- one or two entries
+abbrev pub list_of : Arrivals → List Entry
+list_of (arrivals.One a) = a ∷ []
+list_of (arrivals.Two a b) = a ∷ b ∷ []
+
+-- of each machine for which the entry stands, the chosen state stands for that after the instruction
+abbrev pub StepsTo : Terms → Image → Entry → Stepped → Type 0
+StepsTo g image e r =
+    (i : Assignment) → IsAssignment i → (m : State) → IsState m → StandsFor i g e.state m
+    → StandsFor i g (chosen i g r) (next image m)
+
+-- an entry with this state and condition that may come of another: the state stands for the machines after the
+-- instruction wherever the condition is true, and there the other's condition is true
+pub record ComesOf (g : Terms) (image : Image) (p : Plan) (e : Entry) (s : SymState) (c : BitId) (w : Option Assignment) : Type 0 where
+  pub state : IsSymState g s
+  pub there : HasBit g c
+  pub state_inputs : StateHasOnly g (is_chosen p.kinds p.power) s
+  pub cond_inputs : HasOnly g (is_chosen p.kinds p.power) c.number
+  pub holds : (i : Assignment) → IsAssignment i → bit_value i g c ≡ true → bit_value i g e.cond ≡ true
+  pub stands : (i : Assignment) → IsAssignment i → bit_value i g c ≡ true → (m : State) → IsState m → StandsFor i g e.state m → StandsFor i g s (next image m)
+  pub witness : (u : Assignment) → w ≡ Some u → IsWitness g p c u

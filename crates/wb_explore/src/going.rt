@@ -1,25 +1,28 @@
-ghost use Rattle.std.specs.Prelude.{◌≡◌, ◌+◌, ◌<◌, ◌≤◌, ◌^◌, true, is_some, Some, [], ◌∷◌, ◌++◌, IfOk, IfErr, OnOk, OnErr, length};
-ghost use Rattle.wb_term.specs.Terms.{table_of, table_words};
+ghost use Rattle.std.specs.Prelude.{◌≡◌, ◌≢◌, ◌+◌, ◌<◌, ◌≤◌, ◌^◌, true, is_some, Some, [], ◌∷◌, ◌++◌, IfOk, IfErr, OnOk, OnErr, length};
+ghost use Rattle.wb_term.specs.Terms.{HasBit, table_of, table_words};
+ghost use Rattle.wb_term.specs.Under.{HasOnly};
+ghost use Rattle.wb_symstep.specs.State.{IsSymState, StateHasOnly};
+ghost use Rattle.wb_symstep.specs.declared.stepped.Stepped.TheVariants.{Fork};
 ghost use Rattle.wb_term.specs.Growth.{Grown, AddsAtMost};
 ghost use Rattle.wb_law.specs.declared.classes.Class.TheVariants as class;
 ghost use Rattle.wb_law.specs.Classes.{class_at};
 ghost use Rattle.wb_explore.specs.declared.entries.Entry.{Entry};
 ghost use Rattle.wb_explore.specs.Entries.{IsSound};
-ghost use Rattle.wb_explore.specs.Plans.{runs_of};
+ghost use Rattle.wb_explore.specs.Plans.{runs_of, is_chosen};
 ghost use Rattle.wb_explore.specs.Layers.{AddsPassed};
-ghost use Rattle.wb_explore.specs.Pending.{entry_view, IsEntry, ArePending, AreAhead, IsAbove, IsPutAhead, IsUnput, IsNext};
+ghost use Rattle.wb_explore.specs.Pending.{entry_view, IsEntry, ArePending, AreAhead, IsAbove, IsPutAhead, IsUnput, IsNext, AreHeirs, AreArrivals, StepsTo, list_of};
 
 use crate::arrivals::arrive;
 use crate::entries::Entry;
-use crate::facts::held_laws;
 use crate::faults::ExploreFault;
 use crate::plan::Plan;
 use crate::purse::Purse;
 use std::alloc::Global;
+use wb_make::{mk_andb, mk_notb};
 use wb_point::{rank_at, shown};
 use wb_rom::Image;
-use wb_symstep::SymState;
-use wb_term::{BitId, Graph, Inputs};
+use wb_symstep::{SymState, states_stay};
+use wb_term::{BitId, Graph, Inputs, Scratch};
 use wb_word::OutOfMemory;
 
 /// The entry that comes of another by one instruction, which leaves this state.
@@ -48,6 +51,105 @@ pub(crate) fn next_entry(
         cond,
         witness,
     })
+}
+
+/// What comes of an entry by one instruction.
+#[derive(Drop)]
+pub(crate) enum Arrivals {
+    One(Entry),
+    Two(Entry, Entry),
+}
+
+/// Who inherits inputs: the first of two where its bit is true under them, else the second.
+fn heirs(
+    graph: &Graph,
+    alloc: Global,
+    first: BitId,
+    witness: &Option<Inputs>,
+) -> Result<(Option<Inputs>, Option<Inputs>), OutOfMemory>
+    requires { HasBit graph.now first }
+    ensures { IfOk result (λ pair. AreHeirs graph.now first witness.now pair.0 pair.1) }
+{
+    let Some(inputs) = witness else {
+        return Ok((None, None));
+    };
+    let copy = copy_inputs(alloc, inputs)?;
+    let mut scratch = Scratch::for_graph(alloc, graph)?;
+    let _node = graph.bit_at(first);
+    if graph.value_bit(first, inputs, &mut scratch) {
+        Ok((Some(copy), None))
+    } else {
+        Ok((None, Some(copy)))
+    }
+}
+
+/// Equal inputs.
+pub(crate) fn copy_inputs(alloc: Global, inputs: &Inputs) -> Result<Inputs, OutOfMemory>
+    ensures { IfOk result (λ copy. copy ≡ inputs.now) }
+{
+    let bytes = inputs_bytes(alloc, inputs)?;
+    let cells = inputs_cells(alloc, inputs)?;
+    let copy = Inputs::new(alloc, &bytes, &cells)?;
+    Ok(copy)
+}
+
+fn inputs_bytes(alloc: Global, inputs: &Inputs) -> Result<Vec<u8>, OutOfMemory>
+    ensures bytes { IfOk result (λ bytes. bytes.items ≡ inputs.now.bytes) }
+    ensures len { IfOk result (λ bytes. length bytes.items ≡ 16) }
+{
+    let _first = inputs.byte(0);
+    let mut bytes = Vec::with_capacity(alloc, 16)?;
+    for place in 0..16u8 {
+        bytes.push(inputs.byte(place))?;
+    }
+    Ok(bytes)
+}
+
+fn inputs_cells(alloc: Global, inputs: &Inputs) -> Result<Vec<u16>, OutOfMemory>
+    ensures cells { IfOk result (λ cells. cells.items ≡ inputs.now.cells) }
+    ensures len { IfOk result (λ cells. length cells.items ≡ 256) }
+{
+    let _first = inputs.cell(0);
+    let mut cells = Vec::with_capacity(alloc, 256)?;
+    for place in 0..256u16 {
+        cells.push(inputs.cell(place as u8))?;
+    }
+    Ok(cells)
+}
+
+/// What comes of an entry by a fork.
+fn fork(
+    graph: &mut Graph,
+    alloc: Global,
+    image: &Image,
+    plan: &Plan,
+    entry: &Entry,
+    cond: BitId,
+    yes: SymState,
+    no: SymState,
+) -> Result<Arrivals, OutOfMemory>
+    requires entry { IsEntry graph.old image.now plan.now entry.now }
+    requires goes { entry.now.key.count ≢ plan.now.pace }
+    requires cond { HasBit graph.old cond }
+    requires cond_inputs { HasOnly graph.old (is_chosen plan.now.kinds plan.now.power) cond.number }
+    requires yes { IsSymState graph.old yes }
+    requires no { IsSymState graph.old no }
+    requires yes_inputs { StateHasOnly graph.old (is_chosen plan.now.kinds plan.now.power) yes }
+    requires no_inputs { StateHasOnly graph.old (is_chosen plan.now.kinds plan.now.power) no }
+    requires stands { StepsTo graph.old image.now entry.now (Fork cond yes no) }
+    requires room { length graph.old.nodes + 3 ≤ 2 ^ 31 }
+    ensures arrivals { IfOk result (λ a. AreArrivals graph.new image.now plan.now entry.now (list_of a)) }
+    ensures grown { Grown graph.old graph.new }
+    ensures adds { AddsAtMost graph.old graph.new 3 2 }
+{
+    states_stay();
+    let first = mk_andb(graph, entry.cond, cond)?;
+    let other = mk_notb(graph, cond)?;
+    let second = mk_andb(graph, entry.cond, other)?;
+    let (heir, co_heir) = heirs(graph, alloc, first, &entry.witness)?;
+    let one = next_entry(alloc, image, plan, entry, yes, first, heir)?;
+    let two = next_entry(alloc, image, plan, entry, no, second, co_heir)?;
+    Ok(Arrivals::Two(one, two))
 }
 
 /// Puts an entry among those ahead of a rank. One that isn't above it is at no chip, and is left out.

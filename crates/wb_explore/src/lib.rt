@@ -11,7 +11,6 @@ mod layer;
 mod plan;
 mod purse;
 mod reached;
-mod soon;
 
 pub use budget::Budget;
 pub use faults::{Asked, ExploreFault};
