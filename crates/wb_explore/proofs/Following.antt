@@ -16,7 +16,9 @@ use Rattle.wb_port.specs.declared.points.Shown.{Shown}
 use Rattle.wb_port.specs.NextPoint.{showing, shown_of, point_stepped}
 use Rattle.wb_port.specs.Monitor.{count_after}
 use Rattle.wb_symstep.specs.declared.state.SymState.{SymState}
+use Rattle.wb_symstep.specs.declared.stepped.Stepped.{Stepped}
 use Rattle.wb_symstep.specs.declared.stepped.Stepped.TheVariants.{One, Fork}
+use Rattle.wb_symstep.specs.Stepped.{chosen}
 use Rattle.wb_symstep.specs.State.{StandsFor, IsSymState, StateHasOnly}
 use Rattle.wb_symstep.specs.Laws.{GrowthKeepsStates}
 use Rattle.wb_point.specs.Shows.{shows}
@@ -37,6 +39,9 @@ count_within false false count k most other = by_cases (cases_lt count k)
     by_cases (inl less) = omega arith
     by_cases (inr up) = absurd (other (let e : count ≡ k = omega arith in e))
 
+pub not_equal : (m n : ℕ) → m < n → m ≢ n
+not_equal m n less e = absurd (let l = less in omega arith)
+
 both_true : (b c : Bool) → (b && c) ≡ true → (b ≡ true) × (c ≡ true)
 both_true true c e = (refl, e)
 both_true false c e = absurd (both_ways false refl e)
@@ -52,6 +57,15 @@ not_false false e = refl
 false_not : (b : Bool) → b ≢ true → not b ≡ true
 false_not true n = absurd (n refl)
 false_not false n = refl
+
+-- an entry's point is at an address
+pub entry_place : (g : Terms) (image : Image) (p : Plan) (e : Entry) → IsEntry g image p e → e.key.pc < 2048
+entry_place g image p e x = subst (λ (n : ℕ). n < 2048) (ap (λ (q : Point). q.pc) x.shown) x.state.pc_in
+
+-- in a graph that has grown, what comes of the entry's machines is the same
+pub steps_to : (keeps : GrowthKeepsStates) (f h : Terms) (grown : Grown f h) (image : Image) (p : Plan) (e : Entry) (r : Stepped) → IsEntry f image p e
+    → ((i : Assignment) → IsAssignment i → (m : State) → IsState m → StandsFor i f e.state m → StandsFor i h (chosen i h r) (next image m)) → StepsTo h image e r
+steps_to keeps f h grown image p e r x stands i a m k t = stands i a m k ((keeps f h grown).stood i e.state m x.state t)
 
 module _ (image : Image) (p : Plan) (e : Entry) where
   -- the entry that comes of another is one

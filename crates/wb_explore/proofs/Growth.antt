@@ -1,5 +1,5 @@
 -- One growth after another.
-use Rattle.std.proofs.Common.{◌∙◌, arith}
+use Rattle.std.proofs.Common.{◌∙◌, refl, arith}
 use Rattle.wb_term.specs.Terms.{Terms}
 use Rattle.wb_term.specs.Growth.{Grown}
 
@@ -17,4 +17,19 @@ a ▸ b = record {
   word_inputs = λ p x there only. b.word_inputs p x (a.words x there) (a.word_inputs p x there only);
   bit_inputs = λ p c there only. b.bit_inputs p c (a.bits c there) (a.bit_inputs p c there only);
   under = λ j k within u. a.under j k within (b.under j k (omega (arith, a.longer, within)) u);
+}
+
+pub grown_same : (g : Terms) → Grown g g
+grown_same g = record {
+  tables = refl;
+  longer = omega arith;
+  nodes = λ k n at. at;
+  before = λ k n within at. at;
+  words = λ x there. there;
+  bits = λ c there. there;
+  word_values = λ i x there. refl;
+  bit_values = λ i c there. refl;
+  word_inputs = λ p x there only. only;
+  bit_inputs = λ p c there only. only;
+  under = λ j k within u. u;
 }

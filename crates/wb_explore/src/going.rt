@@ -1,8 +1,11 @@
-ghost use Rattle.std.specs.Prelude.{◌≡◌, ◌≢◌, ◌+◌, ◌<◌, ◌≤◌, ◌^◌, true, is_some, Some, [], ◌∷◌, ◌++◌, IfOk, IfErr, OnOk, OnErr, length};
+ghost use Rattle.std.specs.Prelude.{◌≡◌, ◌≢◌, ◌+◌, ◌<◌, ◌≤◌, ◌^◌, Bool, not, ◌&&◌, true, is_some, Some, [], ◌∷◌, ◌++◌, IfOk, IfErr, OnOk, OnErr, length};
 ghost use Rattle.wb_term.specs.Terms.{HasBit, table_of, table_words};
 ghost use Rattle.wb_term.specs.Under.{HasOnly};
 ghost use Rattle.wb_symstep.specs.State.{IsSymState, StateHasOnly};
-ghost use Rattle.wb_symstep.specs.declared.stepped.Stepped.TheVariants.{Fork};
+ghost use Rattle.wb_symstep.specs.declared.stepped.Stepped.TheVariants.{One, Fork};
+ghost use Rattle.wb_symstep.specs.Stepped.{IsStepped, SteppedHasOnly};
+ghost use Rattle.wb_term.specs.declared.nodes.Node.{Node};
+ghost use Rattle.wb_term.specs.Values.{IsBit, bit_value};
 ghost use Rattle.wb_term.specs.Growth.{Grown, AddsAtMost};
 ghost use Rattle.wb_law.specs.declared.classes.Class.TheVariants as class;
 ghost use Rattle.wb_law.specs.Classes.{class_at};
@@ -21,7 +24,7 @@ use std::alloc::Global;
 use wb_make::{mk_andb, mk_notb};
 use wb_point::{rank_at, shown};
 use wb_rom::Image;
-use wb_symstep::{SymState, states_stay};
+use wb_symstep::{Stepped, SymState, states_stay, sym_step};
 use wb_term::{BitId, Graph, Inputs, Scratch};
 use wb_word::OutOfMemory;
 
@@ -40,10 +43,11 @@ pub(crate) fn next_entry(
     requires next_place { state.pc < 2048 }
     ensures { IfOk result (IsNext image.now plan.now entry.now state cond witness) }
 {
+    let pace = plan.pace;
     let mut key = entry.key.copy(alloc)?;
     let shows = shown(&state);
     key.step(image, shows);
-    let rank = rank_at(image, plan.pace, &key);
+    let rank = rank_at(image, pace, &key);
     Ok(Entry {
         key,
         rank,
@@ -117,6 +121,24 @@ fn inputs_cells(alloc: Global, inputs: &Inputs) -> Result<Vec<u16>, OutOfMemory>
     Ok(cells)
 }
 
+/// The conditions of the two ways of a fork: the entry's, and that of the fork or not.
+fn branches(graph: &mut Graph, here: BitId, cond: BitId) -> Result<(BitId, BitId), OutOfMemory>
+    requires here { HasBit graph.old here }
+    requires cond { HasBit graph.old cond }
+    requires room { length graph.old.nodes + 3 ≤ 2 ^ 31 }
+    ensures first { IfOk result (λ pair. IsBit graph.new pair.0 (λ i. bit_value i graph.old here && bit_value i graph.old cond)) }
+    ensures second { IfOk result (λ pair. IsBit graph.new pair.1 (λ i. bit_value i graph.old here && not (bit_value i graph.old cond))) }
+    ensures inputs { IfOk result (λ pair. (allowed : Node → Bool) → HasOnly graph.old allowed here.number → HasOnly graph.old allowed cond.number →
+        HasOnly graph.new allowed pair.0.number × HasOnly graph.new allowed pair.1.number) }
+    ensures grown { Grown graph.old graph.new }
+    ensures adds { AddsAtMost graph.old graph.new 3 2 }
+{
+    let first = mk_andb(graph, here, cond)?;
+    let other = mk_notb(graph, cond)?;
+    let second = mk_andb(graph, here, other)?;
+    Ok((first, second))
+}
+
 /// What comes of an entry by a fork.
 fn fork(
     graph: &mut Graph,
@@ -129,7 +151,8 @@ fn fork(
     no: SymState,
 ) -> Result<Arrivals, OutOfMemory>
     requires entry { IsEntry graph.old image.now plan.now entry.now }
-    requires goes { entry.now.key.count ≢ plan.now.pace }
+    requires goes { entry.now.key.count < plan.now.pace }
+    requires place { entry.now.key.pc < 2048 }
     requires cond { HasBit graph.old cond }
     requires cond_inputs { HasOnly graph.old (is_chosen plan.now.kinds plan.now.power) cond.number }
     requires yes { IsSymState graph.old yes }
@@ -143,13 +166,94 @@ fn fork(
     ensures adds { AddsAtMost graph.old graph.new 3 2 }
 {
     states_stay();
-    let first = mk_andb(graph, entry.cond, cond)?;
-    let other = mk_notb(graph, cond)?;
-    let second = mk_andb(graph, entry.cond, other)?;
-    let (heir, co_heir) = heirs(graph, alloc, first, &entry.witness)?;
+    let (first, second) = branches(graph, entry.cond, cond)?;
+    let (heir, other) = heirs(graph, alloc, first, &entry.witness)?;
     let one = next_entry(alloc, image, plan, entry, yes, first, heir)?;
-    let two = next_entry(alloc, image, plan, entry, no, second, co_heir)?;
+    let two = next_entry(alloc, image, plan, entry, no, second, other)?;
     Ok(Arrivals::Two(one, two))
+}
+
+/// What comes of an entry without a fork.
+fn one_way(
+    graph: &Graph,
+    alloc: Global,
+    image: &Image,
+    plan: &Plan,
+    entry: &Entry,
+    state: SymState,
+) -> Result<Arrivals, OutOfMemory>
+    requires entry { IsEntry graph.now image.now plan.now entry.now }
+    requires goes { entry.now.key.count < plan.now.pace }
+    requires place { entry.now.key.pc < 2048 }
+    requires state { IsSymState graph.now state }
+    requires state_inputs { StateHasOnly graph.now (is_chosen plan.now.kinds plan.now.power) state }
+    requires stands { StepsTo graph.now image.now entry.now (One state) }
+    ensures { IfOk result (λ a. AreArrivals graph.now image.now plan.now entry.now (list_of a)) }
+{
+    states_stay();
+    let witness = copy_witness(alloc, &entry.witness)?;
+    let one = next_entry(alloc, image, plan, entry, state, entry.cond, witness)?;
+    Ok(Arrivals::One(one))
+}
+
+/// Equal inputs, where there are some.
+fn copy_witness(alloc: Global, witness: &Option<Inputs>) -> Result<Option<Inputs>, OutOfMemory>
+    ensures { IfOk result (λ copy. copy ≡ witness.now) }
+{
+    match witness {
+        Some(inputs) => {
+            let copy = copy_inputs(alloc, inputs)?;
+            Ok(Some(copy))
+        }
+        None => Ok(None),
+    }
+}
+
+/// What comes of an entry by what its state comes to.
+fn arrivals_of(
+    graph: &mut Graph,
+    alloc: Global,
+    image: &Image,
+    plan: &Plan,
+    entry: &Entry,
+    stepped: Stepped,
+) -> Result<Arrivals, OutOfMemory>
+    requires entry { IsEntry graph.old image.now plan.now entry.now }
+    requires goes { entry.now.key.count < plan.now.pace }
+    requires place { entry.now.key.pc < 2048 }
+    requires stepped { IsStepped graph.old stepped }
+    requires inputs { SteppedHasOnly graph.old (is_chosen plan.now.kinds plan.now.power) stepped }
+    requires stands { StepsTo graph.old image.now entry.now stepped }
+    requires room { length graph.old.nodes + 3 ≤ 2 ^ 31 }
+    ensures arrivals { IfOk result (λ a. AreArrivals graph.new image.now plan.now entry.now (list_of a)) }
+    ensures grown { Grown graph.old graph.new }
+    ensures adds { AddsAtMost graph.old graph.new 3 2 }
+{
+    match stepped {
+        Stepped::One(state) => one_way(graph, alloc, image, plan, entry, state),
+        Stepped::Fork { cond, yes, no } => fork(graph, alloc, image, plan, entry, cond, yes, no),
+    }
+}
+
+/// What comes of an entry by its next instruction.
+pub(crate) fn follow(
+    graph: &mut Graph,
+    alloc: Global,
+    image: &Image,
+    plan: &Plan,
+    entry: &Entry,
+) -> Result<Arrivals, OutOfMemory>
+    requires entry { IsEntry graph.old image.now plan.now entry.now }
+    requires goes { entry.now.key.count < plan.now.pace }
+    requires words { table_words graph.old.tables (table_of graph.old.tables plan.now.side) ≡ image.now.drom }
+    requires room { length graph.old.nodes + 1203 ≤ 2 ^ 31 }
+    ensures arrivals { IfOk result (λ a. AreArrivals graph.new image.now plan.now entry.now (list_of a)) }
+    ensures grown { Grown graph.old graph.new }
+    ensures adds { AddsAtMost graph.old graph.new 1203 120002 }
+{
+    states_stay();
+    let stepped = sym_step(graph, alloc, image, plan.side, &entry.state)?;
+    arrivals_of(graph, alloc, image, plan, entry, stepped)
 }
 
 /// Puts an entry among those ahead of a rank. One that isn't above it is at no chip, and is left out.
