@@ -13,7 +13,7 @@ use Rattle.wb_explore.specs.declared.reached.ReachedPoint.{ReachedPoint}
 use Rattle.wb_explore.specs.Runs.{Runs, Comes}
 use Rattle.wb_explore.specs.Entries.{IsAt, IsSound, IsAtSome, Carries}
 use Rattle.wb_explore.specs.Plans.{runs_of, is_chosen}
-use Rattle.wb_explore.specs.Pending.{entry_view, IsEntry, IsWitness, ArePending}
+use Rattle.wb_explore.specs.Pending.{entry_view, IsEntry, IsWitness, IsAbove, ArePending}
 
 module _ (keeps : GrowthKeepsStates) (image : Image) (p : Plan) (g h : Terms) (grown : Grown g h) where
   pub entry_grown : (e : Entry) → IsEntry g image p e → IsEntry h image p e
@@ -38,6 +38,16 @@ module _ (keeps : GrowthKeepsStates) (image : Image) (p : Plan) (g h : Terms) (g
     stands = (keeps g h grown).stands i e.state c.machine x.state t.stands;
     key = t.key;
   }
+
+  pub at_shrunk : (r : Runs) (i : Assignment) (e : Entry) (c : Chip) → IsEntry g image p e → IsAt (entry_view h) r i e c → IsAt (entry_view g) r i e c
+  at_shrunk r i e c x t = record {
+    holds = sym (grown.bit_values i e.cond x.cond) ∙ t.holds;
+    stands = (keeps g h grown).stood i e.state c.machine x.state t.stands;
+    key = t.key;
+  }
+
+  pub above_grown : (bound : ℕ) (e : Entry) → IsEntry g image p e → IsAbove g image p bound e → IsAbove h image p bound e
+  above_grown bound e x above i a c come t = above i a c come (at_shrunk (runs_of image p) i e c x t)
 
   pub sound_grown : (r : Runs) (e : Entry) → IsEntry g image p e → IsSound (entry_view g) r e → IsSound (entry_view h) r e
   sound_grown r e x s i a q =

@@ -4,7 +4,7 @@ use Rattle.std.specs.Prelude.{Contains, All, is_some}
 use Rattle.std.proofs.lemmas.Bool.{both_ways}
 use Rattle.std.specs.Prelude.{slice_index_or}
 use Rattle.std.proofs.lemmas.List.{get_or_default, append_assoc}
-use Rattle.std.proofs.lemmas.List.Elements.{Contains-append_left, Contains-append_cases, Contains-push_cases}
+use Rattle.std.proofs.lemmas.List.Elements.{Contains-append_left, Contains-append_right, Contains-append_cases, Contains-push_cases}
 use Rattle.wb_rom.specs.declared.images.Image.{Image}
 use Rattle.wb_term.specs.Inputs.{Assignment, IsAssignment}
 use Rattle.wb_term.specs.Terms.{Terms}
@@ -19,16 +19,22 @@ use Rattle.wb_symstep.specs.Laws.{GrowthKeepsStates}
 use Rattle.wb_explore.specs.declared.plan.Plan.{Plan}
 use Rattle.wb_explore.specs.declared.entries.Entry.{Entry}
 use Rattle.wb_explore.specs.declared.reached.ReachedPoint.{ReachedPoint}
+use Rattle.wb_explore.specs.declared.going.Arrivals.{Arrivals}
+use Rattle.wb_explore.specs.declared.going.Arrivals.TheVariants as arrivals
+use Rattle.wb_explore.specs.declared.budget.Budget.{Budget}
+use Rattle.wb_explore.specs.declared.faults.ExploreFault.{ExploreFault}
+use Rattle.wb_explore.specs.declared.faults.ExploreFault.TheVariants as fault
+use Rattle.wb_explore.specs.Purses.{Holding}
 use Rattle.wb_explore.specs.HeldLaws.{HeldLaws}
 use Rattle.wb_explore.specs.Runs.{Runs, AreTalks, Comes, point_in}
 use Rattle.wb_explore.specs.Entries.{IsAt, IsSound, IsAtSome, Carries, FollowsOn, Taken}
 use Rattle.wb_explore.specs.Plans.{runs_of}
 use Rattle.wb_explore.specs.Layers.{AddsPassed}
-use Rattle.wb_explore.specs.Pending.{entry_key, entry_view, IsEntry, IsFound, ArePending, IsPlaced, AreAhead, IsPut, IsPutAhead, IsAbove, AreArrivals, IsGoneOn}
+use Rattle.wb_explore.specs.Pending.{entry_key, entry_view, IsEntry, IsFound, ArePending, IsPlaced, AreAhead, IsPut, IsPutAhead, IsAbove, AreArrivals, IsGoneOn, ArePutAhead, IsUnput, each_of, list_of}
 use Rattle.wb_explore.proofs.Ways.{one_chip, rank_rises, step_comes}
 use Rattle.wb_explore.proofs.Covering.{class_of, follows_at, follows_sound}
 use Rattle.wb_explore.proofs.Growing.{entry_grown, at_grown, sound_grown, carries_grown, pending_grown}
-use Rattle.wb_explore.proofs.Lists.{from_all, taken_itself, taken_back, taken_cases, apart_taken}
+use Rattle.wb_explore.proofs.Lists.{listed_head, listed_tail, listed_cases, listed_none, from_all, taken_itself, taken_back, taken_cases, apart_taken}
 
 -- additions add up
 pub adds_on : {f g h : Terms} (a b c d : ℕ) → AddsAtMost f g a c → AddsAtMost g h b d → AddsAtMost f h (a + b) (c + d)
@@ -40,6 +46,17 @@ adds_on {f} {g} {h} a b c d x y = record {
 -- a graph that stays adds nothing
 pub adds_none : (g : Terms) (a c : ℕ) → AddsAtMost g g a c
 adds_none g a c = record { longer_by = omega arith; heavier_by = omega arith }
+
+-- a bound on additions may be raised
+pub adds_raised : {f g : Terms} (a b c d : ℕ) → a ≤ b → c ≤ d → AddsAtMost f g a c → AddsAtMost f g b d
+adds_raised a b c d l m x = record {
+  longer_by = let p = x.longer_by in omega arith;
+  heavier_by = let p = x.heavier_by in omega arith;
+}
+
+pub each_from : (P : Entry → Type 0) (a : Arrivals) → ((n : Entry) → Contains (list_of a) n → P n) → each_of P a
+each_from P (arrivals.One a) f = f a (listed_head a a [] refl)
+each_from P (arrivals.Two a b) f = (f a (listed_head a a (b ∷ []) refl), f b (listed_tail a b (b ∷ []) (listed_head b b [] refl)))
 
 module _ (image : Image) (p : Plan) where
   -- a point above the bound is in the purse only where an entry of it has a witness
@@ -107,6 +124,48 @@ module _ (image : Image) (p : Plan) where
       placed x (inl f) = found x f (taken_cases es rest e f.entry taken f.listed)
       placed x (inr (low, none)) = let up = h.ahead e here in inr (omega arith, λ n c. none n (taken_back es rest e n taken c))
 
+  -- one, and two after each other
+
+  pub put_one : (g h : Terms) (before after : List ReachedPoint) (es fs : List Entry) (e : Entry) (bound : ℕ) → IsPutAhead image p g h before after es e bound fs → ArePutAhead image p g h before after es (e ∷ []) bound fs
+  put_one g h before after es fs e bound x = record {
+    pending = x.pending;
+    carries = x.carries;
+    ahead = x.ahead;
+    count = x.count;
+    longer = let l = x.longer in omega arith;
+  }
+
+  pub put_two : (keeps : GrowthKeepsStates) (g h k : Terms) (grown : Grown g h) (before mid after : List ReachedPoint) (es fs gs : List Entry) (a b : Entry) (bound : ℕ) → IsEntry g image p b
+      → IsPutAhead image p g h before mid es a bound fs → IsPutAhead image p h k mid after fs b bound gs → ArePutAhead image p g k before after es (a ∷ b ∷ []) bound gs
+  put_two keeps g h k grown before mid after es fs gs a b bound z x y = record {
+    pending = y.pending;
+    carries = λ i d c come t. y.carries i d c come (by_entry i d c come t (Contains-append_cases es (a ∷ b ∷ []) t.entry t.listed));
+    ahead = y.ahead;
+    count = let l = x.count in let m = y.count in omega arith;
+    longer = let l = x.longer in let m = y.longer in omega arith;
+  }
+    where
+      by_entry : (i : Assignment) → IsAssignment i → (c : Chip) → Comes (runs_of image p) i c → (t : IsAtSome (entry_view g) (runs_of image p) (es ++ a ∷ b ∷ []) i c) → Contains es t.entry ⊎ Contains (a ∷ b ∷ []) t.entry → IsAtSome (entry_view h) (runs_of image p) (fs ++ b ∷ []) i c
+      by_entry i d c come t listed = from_listed listed
+        where
+          first : Contains (es ++ a ∷ []) t.entry → IsAtSome (entry_view h) (runs_of image p) (fs ++ b ∷ []) i c
+          first m = let u = x.carries i d c come (record { entry = t.entry; listed = m; is_at = t.is_at }) in record { entry = u.entry; listed = Contains-append_left fs (b ∷ []) u.entry u.listed; is_at = u.is_at }
+
+          last : b ≡ t.entry → IsAtSome (entry_view h) (runs_of image p) (fs ++ b ∷ []) i c
+          last q = record {
+            entry = b;
+            listed = Contains-append_right fs (b ∷ []) b (listed_head b b [] refl);
+            is_at = at_grown keeps image p g h grown (runs_of image p) i b c z (subst (λ (n : Entry). IsAt (entry_view g) (runs_of image p) i n c) (sym q) t.is_at);
+          }
+
+          second : (a ≡ t.entry) ⊎ Contains (b ∷ []) t.entry → IsAtSome (entry_view h) (runs_of image p) (fs ++ b ∷ []) i c
+          second (inl q) = first (Contains-append_right es (a ∷ []) t.entry (listed_head a t.entry [] q))
+          second (inr m) = elim (listed_cases b t.entry [] m) [ inl q ↦ last q | inr n ↦ absurd (listed_none t.entry n) ]
+
+          from_listed : Contains es t.entry ⊎ Contains (a ∷ b ∷ []) t.entry → IsAtSome (entry_view h) (runs_of image p) (fs ++ b ∷ []) i c
+          from_listed (inl m) = first (Contains-append_left es (a ∷ []) t.entry m)
+          from_listed (inr m) = second (listed_cases a t.entry (b ∷ []) m)
+
   -- points that were added one after the other
   pub adds_passed : (a b c : List ReachedPoint) → AddsPassed image p a b → AddsPassed image p b c → AddsPassed image p a c
   adds_passed a b c x y = record {
@@ -114,6 +173,18 @@ module _ (image : Image) (p : Plan) where
     after = y.after ∙ (ap (λ (l : List ReachedPoint). l ++ y.added) x.after ∙ append_assoc a x.added y.added);
     passed = λ r d. elim (Contains-append_cases x.added y.added r d) [ inl f ↦ x.passed r f | inr f ↦ y.passed r f ];
   }
+
+  -- a refusal after points were added is one of the purse before
+  pub unput_later : (before mid : Holding) → AddsPassed image p before.reached mid.reached → mid.budget ≡ before.budget → (f : ExploreFault) → IsUnput image p mid f → IsUnput image p before f
+  unput_later before mid adds same (fault.Points list) u = record {
+    adds = adds_passed before.reached mid.reached list adds u.adds;
+    different = u.different;
+    count = u.count ∙ ap (λ (b : Budget). b.points + 1) same;
+  }
+  unput_later before mid adds same fault.OutOfMemory u = tt
+  unput_later before mid adds same (fault.Breach d at) u = absurd u
+  unput_later before mid adds same (fault.Conflicts a b) u = absurd u
+  unput_later before mid adds same (fault.BadAnswer a b) u = absurd u
 
 module _ (laws : HeldLaws) (talks : (image : Image) (p : Plan) → AreTalks (runs_of image p)) (keeps : GrowthKeepsStates) (image : Image) (p : Plan) (g : Terms) (e : Entry) (x : IsEntry g image p e) (s : IsSound (entry_view g) (runs_of image p) e) (goes : class_at image p.pace e.key ≡ class.GoesOn) where
   -- what comes of an entry is above it
@@ -142,3 +213,21 @@ module _ (laws : HeldLaws) (talks : (image : Image) (p : Plan) → AreTalks (run
         listed = n.1;
         is_at = follows_at laws (runs_of image p) (entry_view g) (talks image p) e n.0 (are.follow n.0 n.1) i a d come t n.2;
       }
+
+  -- the exploration went on
+  pub gone_on : (f h : Terms) (grown : Grown f g) (y : IsEntry f image p e) (before after : List ReachedPoint) (es fs ns : List Entry) → ArePending f image p before es → AreArrivals g image p e ns
+      → ArePutAhead image p g h before after es ns e.rank fs → IsGoneOn image p f h before after es e fs
+  gone_on f h grown y before after es fs ns a are put = record {
+    pending = put.pending;
+    ahead = put.ahead;
+    carries = λ i b c come t. let u = carries_grown keeps image p f g grown (runs_of image p) es a.each i b c come t in put.carries i b c come (record { entry = u.entry; listed = Contains-append_left es ns u.entry u.listed; is_at = u.is_at });
+    arrives = λ i b d come t. arrives i b d come (at_grown keeps image p f g grown (runs_of image p) i e d y t);
+    count = put.count;
+    longer = put.longer;
+  }
+    where
+      arrives : (i : Assignment) → IsAssignment i → (d : Chip) → Comes (runs_of image p) i d → IsAt (entry_view g) (runs_of image p) i e d → IsAtSome (entry_view h) (runs_of image p) fs i (stepped image d)
+      arrives i b d come t =
+          let u = arrival_at ns are i b d come t in
+          let on = class_of laws (runs_of image p) (entry_view g) e class.GoesOn i d t goes in
+          put.carries i b (stepped image d) (step_comes laws (runs_of image p) i d come on) (record { entry = u.entry; listed = Contains-append_right es ns u.entry u.listed; is_at = u.is_at })

@@ -215,3 +215,16 @@ pub record ComesOf (g : Terms) (image : Image) (p : Plan) (e : Entry) (s : SymSt
   pub holds : (i : Assignment) → IsAssignment i → bit_value i g c ≡ true → bit_value i g e.cond ≡ true
   pub stands : (i : Assignment) → IsAssignment i → bit_value i g c ≡ true → (m : State) → IsState m → StandsFor i g e.state m → StandsFor i g s (next image m)
   pub witness : (u : Assignment) → w ≡ Some u → IsWitness g p c u
+
+-- each of one or two entries has the property
+abbrev pub each_of : (Entry → Type 0) → Arrivals → Type 0
+each_of P (arrivals.One a) = P a
+each_of P (arrivals.Two a b) = P a × P b
+
+-- entries above the bound were put among those ahead of it
+pub record ArePutAhead (image : Image) (p : Plan) (g h : Terms) (before after : List ReachedPoint) (es ns : List Entry) (bound : ℕ) (fs : List Entry) : Type 0 where
+  pub pending : ArePending h image p after fs
+  pub carries : Carries (runs_of image p) (entry_view g) (es ++ ns) (entry_view h) fs
+  pub ahead : AreAhead image p after fs bound
+  pub count : length before + found_in fs ≤ length after + found_in es
+  pub longer : length fs ≤ length es + 2

@@ -13,16 +13,17 @@ ghost use Rattle.wb_explore.specs.declared.entries.Entry.{Entry};
 ghost use Rattle.wb_explore.specs.Entries.{IsSound};
 ghost use Rattle.wb_explore.specs.Plans.{runs_of, is_chosen};
 ghost use Rattle.wb_explore.specs.Layers.{AddsPassed};
-ghost use Rattle.wb_explore.specs.Pending.{entry_view, IsEntry, ArePending, AreAhead, IsAbove, IsPutAhead, IsUnput, IsNext, AreHeirs, AreArrivals, StepsTo, list_of};
+ghost use Rattle.wb_explore.specs.Pending.{entry_view, IsEntry, ArePending, AreAhead, IsAbove, IsPutAhead, IsUnput, IsNext, AreHeirs, AreArrivals, StepsTo, ArePutAhead, IsGoneOn, each_of, list_of};
 
 use crate::arrivals::arrive;
 use crate::entries::Entry;
+use crate::facts::held_laws;
 use crate::faults::ExploreFault;
 use crate::plan::Plan;
 use crate::purse::Purse;
 use std::alloc::Global;
 use wb_make::{mk_andb, mk_notb};
-use wb_point::{rank_at, shown};
+use wb_point::{dialogues_are_of_their_kinds, rank_at, shown};
 use wb_rom::Image;
 use wb_symstep::{Stepped, SymState, states_stay, sym_step};
 use wb_term::{BitId, Graph, Inputs, Scratch};
@@ -285,4 +286,102 @@ pub(crate) fn arrive_ahead(
         return arrive(graph, alloc, image, plan, purse, pending, entry);
     }
     Ok(())
+}
+
+/// Puts two entries among those ahead of a rank.
+fn put_two(
+    graph: &mut Graph,
+    alloc: Global,
+    image: &Image,
+    plan: &Plan,
+    purse: &mut Purse,
+    pending: &mut Vec<Entry>,
+    one: Entry,
+    two: Entry,
+    bound: u32,
+) -> Result<(), ExploreFault>
+    requires pending { ArePending graph.old image.now plan.now purse.old.reached pending.old.items }
+    requires ahead { AreAhead image.now plan.now purse.old.reached pending.old.items bound }
+    requires one { IsEntry graph.old image.now plan.now one }
+    requires two { IsEntry graph.old image.now plan.now two }
+    requires one_sound { IsSound (entry_view graph.old) (runs_of image.now plan.now) one }
+    requires two_sound { IsSound (entry_view graph.old) (runs_of image.now plan.now) two }
+    requires one_above { IsAbove graph.old image.now plan.now bound one }
+    requires two_above { IsAbove graph.old image.now plan.now bound two }
+    requires few { length plan.now.kinds ≤ 16 }
+    requires room { length graph.old.nodes + 602 ≤ 2 ^ 31 }
+    ensures put { OnOk result (ArePutAhead image.now plan.now graph.old graph.new purse.old.reached purse.new.reached pending.old.items (one ∷ two ∷ []) bound pending.new.items) }
+    ensures fault { IfErr result (IsUnput image.now plan.now purse.old) }
+    ensures passed { AddsPassed image.now plan.now purse.old.reached purse.new.reached }
+    ensures budget { purse.new.budget ≡ purse.old.budget }
+    ensures grown { Grown graph.old graph.new }
+    ensures adds { AddsAtMost graph.old graph.new 602 10002 }
+{
+    states_stay();
+    arrive_ahead(graph, alloc, image, plan, purse, pending, one, bound)?;
+    arrive_ahead(graph, alloc, image, plan, purse, pending, two, bound)
+}
+
+/// Puts what comes of an entry among those ahead of a rank.
+fn put_arrivals(
+    graph: &mut Graph,
+    alloc: Global,
+    image: &Image,
+    plan: &Plan,
+    purse: &mut Purse,
+    pending: &mut Vec<Entry>,
+    arrivals: Arrivals,
+    bound: u32,
+) -> Result<(), ExploreFault>
+    requires pending { ArePending graph.old image.now plan.now purse.old.reached pending.old.items }
+    requires ahead { AreAhead image.now plan.now purse.old.reached pending.old.items bound }
+    requires entries { each_of (IsEntry graph.old image.now plan.now) arrivals }
+    requires sound { each_of (IsSound (entry_view graph.old) (runs_of image.now plan.now)) arrivals }
+    requires above { each_of (IsAbove graph.old image.now plan.now bound) arrivals }
+    requires few { length plan.now.kinds ≤ 16 }
+    requires room { length graph.old.nodes + 602 ≤ 2 ^ 31 }
+    ensures put { OnOk result (ArePutAhead image.now plan.now graph.old graph.new purse.old.reached purse.new.reached pending.old.items (list_of arrivals) bound pending.new.items) }
+    ensures fault { IfErr result (IsUnput image.now plan.now purse.old) }
+    ensures passed { AddsPassed image.now plan.now purse.old.reached purse.new.reached }
+    ensures budget { purse.new.budget ≡ purse.old.budget }
+    ensures grown { Grown graph.old graph.new }
+    ensures adds { AddsAtMost graph.old graph.new 602 10002 }
+{
+    match arrivals {
+        Arrivals::One(one) => arrive_ahead(graph, alloc, image, plan, purse, pending, one, bound),
+        Arrivals::Two(one, two) => put_two(graph, alloc, image, plan, purse, pending, one, two, bound),
+    }
+}
+
+/// Goes on from an entry: what comes of it by one instruction is put among the others.
+pub(crate) fn go_on(
+    graph: &mut Graph,
+    alloc: Global,
+    image: &Image,
+    plan: &Plan,
+    purse: &mut Purse,
+    pending: &mut Vec<Entry>,
+    entry: &Entry,
+) -> Result<(), ExploreFault>
+    requires pending { ArePending graph.old image.now plan.now purse.old.reached pending.old.items }
+    requires ahead { AreAhead image.now plan.now purse.old.reached pending.old.items entry.now.rank }
+    requires entry { IsEntry graph.old image.now plan.now entry.now }
+    requires sound { IsSound (entry_view graph.old) (runs_of image.now plan.now) entry.now }
+    requires class { class_at image.now plan.now.pace entry.now.key ≡ class.GoesOn }
+    requires goes { entry.now.key.count < plan.now.pace }
+    requires few { length plan.now.kinds ≤ 16 }
+    requires words { table_words graph.old.tables (table_of graph.old.tables plan.now.side) ≡ image.now.drom }
+    requires room { length graph.old.nodes + 1805 ≤ 2 ^ 31 }
+    ensures gone { OnOk result (IsGoneOn image.now plan.now graph.old graph.new purse.old.reached purse.new.reached pending.old.items entry.now pending.new.items) }
+    ensures fault { IfErr result (IsUnput image.now plan.now purse.old) }
+    ensures passed { AddsPassed image.now plan.now purse.old.reached purse.new.reached }
+    ensures budget { purse.new.budget ≡ purse.old.budget }
+    ensures grown { Grown graph.old graph.new }
+    ensures adds { AddsAtMost graph.old graph.new 1805 130004 }
+{
+    held_laws();
+    dialogues_are_of_their_kinds();
+    states_stay();
+    let arrivals = follow(graph, alloc, image, plan, entry)?;
+    put_arrivals(graph, alloc, image, plan, purse, pending, arrivals, entry.rank)
 }
