@@ -1,12 +1,10 @@
 -- Steps of an exploration: entries join, go on and are dropped, and what is covered stays covered.
-use Rattle.std.proofs.Common.{◌≡◌, ◌≢◌, ◌↔◌, ℕ, ◌<◌, ◌≤◌, Bool, true, false, ◌||◌, List, [], ◌∷◌, ◌⊎◌, inl, inr, refl, sym, ap, subst, ◌∙◌, arith}
+use Rattle.std.proofs.Common.{◌≡◌, ◌≢◌, ◌≤◌, Bool, true, false, ◌||◌, List, ◌⊎◌, inl, inr, refl, sym, ap, subst, ◌∙◌, arith}
 use Rattle.std.specs.Prelude.{Contains}
 use Rattle.std.proofs.lemmas.Bool.{both_ways}
 use Rattle.wb_term.specs.Inputs.{Assignment, IsAssignment}
-use Rattle.wb_machine.specs.State.{State}
 use Rattle.wb_machine.specs.Next.{next}
 use Rattle.wb_port.specs.declared.chips.Chip.{Chip}
-use Rattle.wb_port.specs.declared.points.Point.{Point}
 use Rattle.wb_port.specs.Monitor.{stepped}
 use Rattle.wb_port.specs.Rank.{rank_of}
 use Rattle.wb_port.specs.NextPoint.{shown_of, point_stepped}
@@ -16,7 +14,7 @@ use Rattle.wb_law.specs.Classes.{class_at, rank_at, DoesNext}
 use Rattle.wb_explore.specs.HeldLaws.{HeldLaws}
 use Rattle.wb_explore.specs.Runs.{Runs, AreTalks, Comes, point_in}
 use Rattle.wb_explore.specs.Entries.{View, IsAt, IsSound, AreSound, IsAtSome, IsAhead, Covered, Carries, Joins, FollowsOn, SaysPassing, IsLeast, IsOnly}
-use Rattle.wb_explore.proofs.Ways.{ranged, Leads, comes_on, one_chip, once, rank_grows, steps_on, step_comes, leads_past, next_point}
+use Rattle.wb_explore.proofs.Ways.{ranged, Leads, one_chip, once, rank_grows, step_comes, leads_past, next_point}
 
 module _ (laws : HeldLaws) (r : Runs) {E : Type 0} (v : View E) where
   -- of two entries joined
@@ -84,8 +82,7 @@ module _ (laws : HeldLaws) (r : Runs) {E : Type 0} (v : View E) where
 
   pub follows_sound : AreTalks r → (e n : E) → class_at r.image r.pace (v.key e) ≡ class.GoesOn → FollowsOn v r.image e n → IsSound v r e → IsSound v r n
   follows_sound talks e n g f s i a q =
-      let t = s i a (f.holds i a q) in
-      (
+      let t = s i a (f.holds i a q) in (
         stepped r.image t.0,
         step_comes laws r i t.0 t.1 (class_of e class.GoesOn i t.0 t.2 g),
         follows_at talks e n f i a t.0 t.1 t.2 q,

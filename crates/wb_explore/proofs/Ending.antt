@@ -1,5 +1,5 @@
 -- The end of an exploration: where no entry is pending, what was seen says all of a layer.
-use Rattle.std.proofs.Common.{◌≡◌, ◌≢◌, ℕ, Bool, true, false, Some, None, List, [], ◌∷◌, ◌⊎◌, inl, inr, refl, sym, ap, subst, ◌∙◌, arith}
+use Rattle.std.proofs.Common.{◌≡◌, Bool, true, false, Some, None, List, [], ◌⊎◌, inl, inr, refl, sym, ap, ◌∙◌, arith}
 use Rattle.std.specs.Prelude.{Contains, All}
 use Rattle.std.proofs.lemmas.Bool.{both_ways}
 use Rattle.wb_word.specs.Encoding.{addr_at}
@@ -9,21 +9,19 @@ use Rattle.wb_port.specs.declared.accesses.Kind.{Kind}
 use Rattle.wb_port.specs.declared.chips.Chip.{Chip}
 use Rattle.wb_port.specs.declared.points.Point.{Point}
 use Rattle.wb_port.specs.declared.runs.Run.{Run}
-use Rattle.wb_port.specs.declared.runs.Run.TheVariants.{Answered, Overrun, Breach}
+use Rattle.wb_port.specs.declared.runs.Run.TheVariants.{Overrun, Breach}
 use Rattle.wb_port.specs.Schedule.{powered}
-use Rattle.wb_port.specs.Talk.{Talk, kinds, IsTransfer}
+use Rattle.wb_port.specs.Talk.{kinds, IsTransfer}
 use Rattle.wb_port.specs.Monitor.{place}
-use Rattle.wb_port.specs.Port.{rqm}
 use Rattle.wb_port.specs.Run.{EndsAs}
 use Rattle.wb_port.specs.Points.{point_at, Passes}
 use Rattle.wb_law.specs.declared.classes.Class.{Class}
 use Rattle.wb_law.specs.declared.classes.Class.TheVariants as class
 use Rattle.wb_law.specs.Classes.{class_at, DoesNext}
-use Rattle.wb_law.specs.Course.{strides, rests, stop_of, StopsBefore, StopsAfter, StopsAs, IsStop}
-use Rattle.wb_law.specs.Points.{PassesAfter}
+use Rattle.wb_law.specs.Course.{strides, rests, stop_of, StopsBefore, StopsAfter}
 use Rattle.wb_explore.specs.HeldLaws.{HeldLaws}
 use Rattle.wb_explore.specs.Runs.{Runs, Comes, Asks, point_in}
-use Rattle.wb_explore.specs.Entries.{View, IsAt, IsSound, AreSound, IsAtSome, Covered}
+use Rattle.wb_explore.specs.Entries.{View, IsAt, AreSound, Covered}
 use Rattle.wb_explore.specs.Seen.{IsSeen, HoldsRequests, StopsNowhere}
 use Rattle.wb_explore.proofs.Ways.{asks_comes, asks_fresh, asks_stands, fresh_asks}
 
@@ -96,8 +94,7 @@ module _ (laws : HeldLaws) (r : Runs) where
       → Passes r.image r.side r.pace (r.talk i) p → (c : Chip) × Comes r i c × (point_in r c ≡ p)
   passes_come i p only same all passes =
       let h = (laws.passed_last r.image r.side r.pace (r.talk i) p only (all ∙ sym same)).0 passes in
-      let c : Chip = strides r.image r.pace true h.steps h.after in
-      (
+      let c : Chip = strides r.image r.pace true h.steps h.after in (
         c,
         record { start = h.after; begins = h.given; leads = (h.steps, refl) },
         ap (λ (ks : List Kind). point_at r.side ks c) (sym same) ∙ h.point,

@@ -1,5 +1,5 @@
 -- What comes of an entry by one instruction.
-use Rattle.std.proofs.Common.{◌≡◌, ◌≢◌, ℕ, suc, ◌+◌, ◌<◌, ◌≤◌, Bool, true, false, not, ◌&&◌, Option, Some, None, List, [], ◌∷◌, ◌⊎◌, inl, inr, refl, sym, ap, subst, ◌∙◌, arith, if◌then◌else◌}
+use Rattle.std.proofs.Common.{◌≡◌, ◌≢◌, ℕ, ◌+◌, ◌<◌, ◌≤◌, Bool, true, false, not, ◌&&◌, Option, Some, [], ◌∷◌, ◌⊎◌, inl, inr, refl, sym, ap, subst, ◌∙◌, arith, if◌then◌else◌}
 use Rattle.std.specs.Prelude.{Contains}
 use Rattle.std.proofs.lemmas.Bool.{both_ways, cases_lt}
 use Rattle.wb_rom.specs.declared.images.Image.{Image}
@@ -13,11 +13,11 @@ use Rattle.wb_machine.specs.State.{State, IsState}
 use Rattle.wb_machine.specs.Next.{next}
 use Rattle.wb_port.specs.declared.points.Point.{Point}
 use Rattle.wb_port.specs.declared.points.Shown.{Shown}
-use Rattle.wb_port.specs.NextPoint.{showing, shown_of, point_stepped}
+use Rattle.wb_port.specs.NextPoint.{showing, point_stepped}
 use Rattle.wb_port.specs.Monitor.{count_after}
 use Rattle.wb_symstep.specs.declared.state.SymState.{SymState}
 use Rattle.wb_symstep.specs.declared.stepped.Stepped.{Stepped}
-use Rattle.wb_symstep.specs.declared.stepped.Stepped.TheVariants.{One, Fork}
+use Rattle.wb_symstep.specs.declared.stepped.Stepped.TheVariants.{Fork}
 use Rattle.wb_symstep.specs.Stepped.{chosen}
 use Rattle.wb_symstep.specs.State.{StandsFor, IsSymState, StateHasOnly}
 use Rattle.wb_symstep.specs.Laws.{GrowthKeepsStates}
@@ -135,9 +135,9 @@ module _ (image : Image) (p : Plan) (e : Entry) where
     -- at a fork
 
     module _ (cond : BitId) (yes no : SymState) (stands : StepsTo f image e (Fork cond yes no)) (first second : BitId)
-      (first_value : (i : Assignment) → IsAssignment i → bit_value i h first ≡ (bit_value i f e.cond && bit_value i f cond))
-      (second_value : (i : Assignment) → IsAssignment i → bit_value i h second ≡ (bit_value i f e.cond && not (bit_value i f cond)))
-      (heir other : Option Assignment) (heirs : AreHeirs h first e.witness heir other) where
+        (first_value : (i : Assignment) → IsAssignment i → bit_value i h first ≡ (bit_value i f e.cond && bit_value i f cond))
+        (second_value : (i : Assignment) → IsAssignment i → bit_value i h second ≡ (bit_value i f e.cond && not (bit_value i f cond)))
+        (heir other : Option Assignment) (heirs : AreHeirs h first e.witness heir other) where
       chosen_yes : (i : Assignment) (m : State) (b : Bool) → b ≡ true → StandsFor i f (if b then yes else no) (next image m) → StandsFor i f yes (next image m)
       chosen_yes i m true q t = t
       chosen_yes i m false q t = absurd (both_ways false refl q)

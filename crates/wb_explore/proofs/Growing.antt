@@ -1,8 +1,8 @@
 -- Growth of the graph leaves entries as they are.
-use Rattle.std.proofs.Common.{◌≡◌, ℕ, Bool, true, Some, List, refl, sym, ap, subst, ◌∙◌}
-use Rattle.std.specs.Prelude.{Contains, is_some}
+use Rattle.std.proofs.Common.{ℕ, List, sym, ◌∙◌}
+use Rattle.std.specs.Prelude.{Contains}
 use Rattle.wb_rom.specs.declared.images.Image.{Image}
-use Rattle.wb_term.specs.Inputs.{Assignment, IsAssignment}
+use Rattle.wb_term.specs.Inputs.{Assignment}
 use Rattle.wb_term.specs.Terms.{Terms}
 use Rattle.wb_term.specs.Growth.{Grown}
 use Rattle.wb_port.specs.declared.chips.Chip.{Chip}
@@ -10,10 +10,10 @@ use Rattle.wb_symstep.specs.Laws.{GrowthKeepsStates}
 use Rattle.wb_explore.specs.declared.plan.Plan.{Plan}
 use Rattle.wb_explore.specs.declared.entries.Entry.{Entry}
 use Rattle.wb_explore.specs.declared.reached.ReachedPoint.{ReachedPoint}
-use Rattle.wb_explore.specs.Runs.{Runs, Comes}
-use Rattle.wb_explore.specs.Entries.{IsAt, IsSound, IsAtSome, Carries}
+use Rattle.wb_explore.specs.Runs.{Runs}
+use Rattle.wb_explore.specs.Entries.{IsAt, IsSound, Carries}
 use Rattle.wb_explore.specs.Plans.{runs_of, is_chosen}
-use Rattle.wb_explore.specs.Pending.{entry_view, IsEntry, IsWitness, IsAbove, ArePending}
+use Rattle.wb_explore.specs.Pending.{entry_view, IsEntry, IsAbove, ArePending}
 
 module _ (keeps : GrowthKeepsStates) (image : Image) (p : Plan) (g h : Terms) (grown : Grown g h) where
   pub entry_grown : (e : Entry) → IsEntry g image p e → IsEntry h image p e

@@ -1,5 +1,5 @@
 -- Two entries of one point joined by the first one's condition.
-use Rattle.std.proofs.Common.{◌≡◌, ◌≢◌, ℕ, Bool, true, false, ◌||◌, ◌↔◌, Option, Some, None, List, [], ◌∷◌, refl, sym, ap, subst, ◌∙◌, if◌then◌else◌}
+use Rattle.std.proofs.Common.{◌≡◌, ◌≢◌, Bool, true, false, ◌||◌, Option, Some, None, [], ◌∷◌, refl, sym, ap, subst, ◌∙◌, if◌then◌else◌}
 use Rattle.std.proofs.lemmas.Bool.{both_ways}
 use Rattle.wb_rom.specs.declared.images.Image.{Image}
 use Rattle.wb_term.specs.declared.nodes.BitId.{BitId}

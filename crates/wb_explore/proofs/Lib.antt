@@ -9,3 +9,4 @@ pub mod Growth
 pub mod Refusals
 pub mod Onward
 pub mod Following
+pub mod Wondering

@@ -1,10 +1,10 @@
 -- Lists of entries: what is listed after one was put or taken.
-use Rattle.std.proofs.Common.{◌≡◌, ◌≢◌, ℕ, zero, suc, ◌+◌, ◌<◌, ◌≤◌, Bool, true, false, List, [], ◌∷◌, ◌++◌, ◌⊎◌, inl, inr, length, take, drop, map, refl, sym, ap, subst, ◌∙◌, arith, slice_index_or, slice_get, Some}
-use Rattle.std.specs.Prelude.{Contains, All, AllPairs, is_some, if◌then◌else◌}
+use Rattle.std.proofs.Common.{◌≡◌, ◌≢◌, ℕ, zero, suc, ◌+◌, ◌<◌, List, [], ◌∷◌, ◌++◌, ◌⊎◌, inl, inr, length, take, drop, map, refl, sym, ap, subst, ◌∙◌, arith, slice_index_or}
+use Rattle.std.specs.Prelude.{Contains, All}
 use Rattle.std.specs.List.{sum_by, remove}
 use Rattle.std.proofs.lemmas.List.{take-append-drop, drop_more, length-append}
 use Rattle.std.proofs.lemmas.List.Elements.{Contains-append_left, Contains-append_right, Contains-append_cases, Contains-push_cases}
-use Rattle.std.proofs.lemmas.List.Sums.{sum_by-append, sum_by_push, sum_by-cons}
+use Rattle.std.proofs.lemmas.List.Sums.{sum_by-append, sum_by-cons}
 use Rattle.wb_port.specs.declared.points.Point.{Point}
 use Rattle.wb_explore.specs.declared.reached.ReachedPoint.{ReachedPoint}
 use Rattle.wb_explore.specs.Entries.{AreApart, Taken}

@@ -1,14 +1,13 @@
 -- The exploration goes on from an entry.
-use Rattle.std.proofs.Common.{◌≡◌, ◌≢◌, ℕ, ◌+◌, ◌<◌, ◌≤◌, Bool, true, false, Option, Some, None, List, [], ◌∷◌, ◌++◌, ◌⊎◌, inl, inr, length, refl, sym, ap, subst, ◌∙◌, arith, append-nil}
-use Rattle.std.specs.Prelude.{Contains, All, is_some}
-use Rattle.std.proofs.lemmas.Bool.{both_ways}
+use Rattle.std.proofs.Common.{◌≡◌, ◌≢◌, ℕ, ◌+◌, ◌<◌, ◌≤◌, List, [], ◌∷◌, ◌++◌, ◌⊎◌, inl, inr, refl, sym, ap, subst, ◌∙◌, arith}
+use Rattle.std.specs.Prelude.{Contains, All}
 use Rattle.std.specs.Prelude.{slice_index_or}
 use Rattle.std.proofs.lemmas.List.{get_or_default, append_assoc}
 use Rattle.std.proofs.lemmas.List.Elements.{Contains-append_left, Contains-append_right, Contains-append_cases, Contains-push_cases}
 use Rattle.wb_rom.specs.declared.images.Image.{Image}
 use Rattle.wb_term.specs.Inputs.{Assignment, IsAssignment}
 use Rattle.wb_term.specs.Terms.{Terms}
-use Rattle.wb_term.specs.Growth.{Grown, AddsAtMost, total_weight}
+use Rattle.wb_term.specs.Growth.{Grown, AddsAtMost}
 use Rattle.wb_port.specs.declared.chips.Chip.{Chip}
 use Rattle.wb_port.specs.declared.points.Point.{Point}
 use Rattle.wb_port.specs.Monitor.{stepped}
@@ -26,14 +25,14 @@ use Rattle.wb_explore.specs.declared.faults.ExploreFault.{ExploreFault}
 use Rattle.wb_explore.specs.declared.faults.ExploreFault.TheVariants as fault
 use Rattle.wb_explore.specs.Purses.{Holding}
 use Rattle.wb_explore.specs.HeldLaws.{HeldLaws}
-use Rattle.wb_explore.specs.Runs.{Runs, AreTalks, Comes, point_in}
-use Rattle.wb_explore.specs.Entries.{IsAt, IsSound, IsAtSome, Carries, FollowsOn, Taken}
+use Rattle.wb_explore.specs.Runs.{AreTalks, Comes}
+use Rattle.wb_explore.specs.Entries.{IsAt, IsSound, IsAtSome, FollowsOn, Taken}
 use Rattle.wb_explore.specs.Plans.{runs_of}
 use Rattle.wb_explore.specs.Layers.{AddsPassed}
 use Rattle.wb_explore.specs.Pending.{entry_key, entry_view, IsEntry, IsFound, ArePending, IsPlaced, AreAhead, IsPut, IsPutAhead, IsAbove, AreArrivals, IsGoneOn, ArePutAhead, IsUnput, each_of, list_of}
-use Rattle.wb_explore.proofs.Ways.{one_chip, rank_rises, step_comes}
+use Rattle.wb_explore.proofs.Ways.{rank_rises, step_comes}
 use Rattle.wb_explore.proofs.Covering.{class_of, follows_at, follows_sound}
-use Rattle.wb_explore.proofs.Growing.{entry_grown, at_grown, sound_grown, carries_grown, pending_grown}
+use Rattle.wb_explore.proofs.Growing.{at_grown, carries_grown}
 use Rattle.wb_explore.proofs.Lists.{listed_head, listed_tail, listed_cases, listed_none, from_all, taken_itself, taken_back, taken_cases, apart_taken}
 
 -- additions add up

@@ -1,16 +1,14 @@
 -- An entry is put among pending ones, alone or joined with that of its point.
-use Rattle.std.proofs.Common.{◌≡◌, ◌≢◌, ℕ, suc, ◌+◌, ◌<◌, ◌≤◌, Bool, true, false, Option, Some, None, List, [], ◌∷◌, ◌++◌, ◌⊎◌, inl, inr, length, refl, sym, ap, subst, ◌∙◌, arith, append-nil}
+use Rattle.std.proofs.Common.{◌≡◌, ◌≢◌, ℕ, ◌+◌, ◌<◌, ◌≤◌, true, false, Option, Some, None, List, [], ◌∷◌, ◌++◌, ◌⊎◌, inl, inr, length, refl, sym, ap, subst, ◌∙◌, arith, append-nil}
 use Rattle.std.specs.Prelude.{Contains, All, is_some, if◌then◌else◌}
-use Rattle.std.specs.List.{sum_by}
 use Rattle.std.proofs.lemmas.Bool.{both_ways}
 use Rattle.std.proofs.lemmas.List.{length_push}
 use Rattle.std.proofs.lemmas.List.Elements.{Contains-append_left, Contains-append_right, Contains-push_cases}
 use Rattle.std.proofs.lemmas.List.Sums.{sum_by_push}
 use Rattle.wb_rom.specs.declared.images.Image.{Image}
-use Rattle.wb_term.specs.Inputs.{Assignment, IsAssignment}
+use Rattle.wb_term.specs.Inputs.{Assignment}
 use Rattle.wb_term.specs.Terms.{Terms}
 use Rattle.wb_term.specs.Growth.{Grown}
-use Rattle.wb_port.specs.declared.chips.Chip.{Chip}
 use Rattle.wb_port.specs.declared.points.Point.{Point}
 use Rattle.wb_port.specs.Points.{Passes}
 use Rattle.wb_law.specs.Classes.{rank_at}
@@ -21,12 +19,12 @@ use Rattle.wb_explore.specs.declared.plan.Plan.{Plan}
 use Rattle.wb_explore.specs.declared.entries.Entry.{Entry}
 use Rattle.wb_explore.specs.declared.reached.ReachedPoint.{ReachedPoint}
 use Rattle.wb_explore.specs.HeldLaws.{HeldLaws}
-use Rattle.wb_explore.specs.Runs.{AreTalks, Comes}
-use Rattle.wb_explore.specs.Entries.{IsAt, IsSound, IsAtSome, AreSound, Carries, Joins, Taken}
+use Rattle.wb_explore.specs.Runs.{AreTalks}
+use Rattle.wb_explore.specs.Entries.{IsAt, IsSound, IsAtSome, Carries, Joins, Taken}
 use Rattle.wb_explore.specs.Plans.{runs_of, IsPlanned}
 use Rattle.wb_explore.specs.Purses.{points_of}
 use Rattle.wb_explore.specs.Layers.{AddsPassed, IsPassedBy}
-use Rattle.wb_explore.specs.Pending.{entry_key, entry_view, IsEntry, IsFound, found_in, ArePending, IsPlaced, AreAhead, IsPut, with_noted, either, newly}
+use Rattle.wb_explore.specs.Pending.{entry_key, entry_view, IsEntry, IsFound, ArePending, IsPlaced, AreAhead, IsPut, with_noted, either, newly}
 use Rattle.wb_explore.proofs.Ending.{comes_passes}
 use Rattle.wb_explore.proofs.Covering.{joined_at_one, joined_at_other, joined_sound}
 use Rattle.wb_explore.proofs.Growing.{entry_grown, at_grown, sound_grown}

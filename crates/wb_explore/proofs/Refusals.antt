@@ -1,6 +1,6 @@
 -- Why an entry isn't put, and what is noted all the same.
-use Rattle.std.proofs.Common.{◌≡◌, ◌≢◌, ℕ, ◌+◌, ◌<◌, Bool, true, false, Option, Some, None, Result, Ok, Err, IfErr, OnOk, List, [], ◌∷◌, ◌++◌, ◌⊎◌, inl, inr, length, refl, sym, ap, subst, ◌∙◌, arith, append-nil}
-use Rattle.std.specs.Prelude.{Contains, All, AllPairs, is_some, slice_index_or}
+use Rattle.std.proofs.Common.{◌≡◌, ◌≢◌, ℕ, ◌+◌, ◌<◌, true, false, Option, Some, None, Result, Ok, Err, IfErr, OnOk, List, [], inl, inr, length, refl, sym, ap, subst, ◌∙◌, arith, append-nil}
+use Rattle.std.specs.Prelude.{All, AllPairs, is_some, slice_index_or}
 use Rattle.std.proofs.lemmas.Bool.{both_ways}
 use Rattle.std.specs.List.{remove}
 use Rattle.std.proofs.lemmas.List.{length_push, get_or_default}
@@ -22,8 +22,8 @@ use Rattle.wb_explore.specs.Entries.{IsSound, Taken}
 use Rattle.wb_explore.specs.Plans.{runs_of}
 use Rattle.wb_explore.specs.Purses.{Holding, IsPurse}
 use Rattle.wb_explore.specs.Layers.{AddsPassed}
-use Rattle.wb_explore.specs.Pending.{entry_key, entry_view, IsEntry, IsFound, ArePending, IsUnnoted, IsUnmet, IsUnput, IsNotedOrNot, with_noted, newly}
-use Rattle.wb_explore.proofs.Putting.{noted_passes, newly_first}
+use Rattle.wb_explore.specs.Pending.{entry_key, entry_view, IsEntry, IsFound, ArePending, IsUnmet, IsUnput, IsNotedOrNot, newly}
+use Rattle.wb_explore.proofs.Putting.{noted_passes}
 use Rattle.wb_explore.proofs.Lists.{apart_only, taken_itself, removed}
 
 pub if_err : {A B : Type 0} {P Q : B → Type 0} (r : Result A B) → ((e : B) → P e → Q e) → IfErr r P → IfErr r Q

@@ -1,23 +1,20 @@
 -- Where held chips come after the last access: in one way, with each rank once.
-use Rattle.std.proofs.Common.{◌≡◌, ℕ, zero, suc, ◌+◌, ◌<◌, ◌≤◌, true, false, None, Some, ◌⊎◌, inl, inr, refl, sym, ap, subst, ◌∙◌, arith}
+use Rattle.std.proofs.Common.{◌≡◌, ◌+◌, ◌<◌, ◌≤◌, true, ◌⊎◌, inl, inr, sym, ap, subst, ◌∙◌}
 use Rattle.wb_term.specs.Inputs.{Assignment, IsAssignment}
-use Rattle.wb_port.specs.declared.accesses.Event.TheVariants as event
 use Rattle.wb_port.specs.declared.chips.Chip.{Chip}
-use Rattle.wb_port.specs.declared.points.Point.{Point}
-use Rattle.wb_port.specs.Schedule.{powered, applied}
+use Rattle.wb_port.specs.Schedule.{powered}
 use Rattle.wb_port.specs.Monitor.{stepped}
 use Rattle.wb_port.specs.Rank.{rank_of}
 use Rattle.wb_port.specs.Port.{rqm}
 use Rattle.wb_port.specs.NextPoint.{shown_of, point_stepped}
-use Rattle.wb_port.specs.Run.{is_waiting}
-use Rattle.wb_law.specs.Course.{stride, strides, stop_of, rests}
+use Rattle.wb_law.specs.Course.{strides, rests}
 use Rattle.wb_law.specs.Strides.{LeadsTo, LeadsOn}
 use Rattle.wb_law.specs.Points.{IsInPace}
 use Rattle.wb_law.specs.Classes.{rank_at, DoesNext}
 use Rattle.wb_law.specs.declared.classes.Class.TheVariants as class
 use Rattle.wb_law.specs.Requests.{IsFresh}
 use Rattle.wb_machine.specs.State.{IsState}
-use Rattle.wb_explore.specs.Runs.{Runs, AreTalks, Begins, Comes, Asks, point_in}
+use Rattle.wb_explore.specs.Runs.{Runs, AreTalks, Comes, Asks, point_in}
 use Rattle.wb_explore.specs.HeldLaws.{HeldLaws}
 
 module _ (laws : HeldLaws) (r : Runs) where

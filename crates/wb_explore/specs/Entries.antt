@@ -2,7 +2,7 @@
 --
 -- What an entry is, is left open: a view says of each its point, under which inputs its condition is true, and for
 -- which machines it stands.
-use Rattle.std.specs.Prelude.{◌≡◌, ◌≢◌, ◌↔◌, ℕ, ◌≤◌, Bool, true, ◌||◌, Option, Some, List, [], ◌∷◌, ◌++◌, ◌⊎◌, Contains}
+use Rattle.std.specs.Prelude.{◌≡◌, ◌≢◌, ◌↔◌, ◌≤◌, Bool, true, ◌||◌, Option, Some, List, [], ◌∷◌, ◌++◌, ◌⊎◌, Contains}
 use Rattle.wb_rom.specs.declared.images.Image.{Image}
 use Rattle.wb_term.specs.Inputs.{Assignment, IsAssignment}
 use Rattle.wb_machine.specs.State.{State, IsState}

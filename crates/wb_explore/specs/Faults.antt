@@ -1,13 +1,11 @@
 -- Why an exploration stops before its end.
 use Rattle.std.specs.Prelude.{◌≡◌, ◌+◌, Bool, true, false, List, [], length, slice_get, All}
-use Rattle.wb_word.specs.declared.sides.Side.{Side}
 use Rattle.wb_rom.specs.declared.images.Image.{Image}
 use Rattle.wb_blast.specs.declared.places.Place.{Place}
 use Rattle.wb_blast.specs.declared.places.Place.TheVariants.{Byte, Cell}
 use Rattle.wb_port.specs.declared.accesses.Kind.{Kind}
 use Rattle.wb_port.specs.declared.accesses.Power.{Power}
 use Rattle.wb_port.specs.declared.points.Point.{Point}
-use Rattle.wb_port.specs.Talk.{Talk}
 use Rattle.wb_port.specs.Verdicts.{Breaks}
 use Rattle.wb_solve.specs.Answers.{IsSpent}
 use Rattle.wb_query.specs.Asking.{IsWrong}

@@ -1,5 +1,5 @@
 -- Pending entries: places that some held runs pass, from which the exploration has yet to go on.
-use Rattle.std.specs.Prelude.{◌≡◌, ◌≢◌, ℕ, ◌+◌, ◌≤◌, ◌<◌, Bool, true, false, is_some, Option, Some, None, List, [], ◌∷◌, ◌++◌, ◌⊎◌, length, slice_index_or, if◌then◌else◌, All, Contains}
+use Rattle.std.specs.Prelude.{◌≡◌, ◌≢◌, ℕ, ◌+◌, ◌≤◌, ◌<◌, true, is_some, Option, Some, None, Result, Ok, Err, List, [], ◌∷◌, ◌++◌, ◌⊎◌, length, slice_index_or, if◌then◌else◌, All, Contains}
 use Rattle.std.specs.List.{sum_by}
 use Rattle.wb_rom.specs.declared.images.Image.{Image}
 use Rattle.wb_term.specs.declared.nodes.BitId.{BitId}
@@ -20,6 +20,10 @@ use Rattle.wb_symstep.specs.declared.stepped.Stepped.{Stepped}
 use Rattle.wb_symstep.specs.Stepped.{chosen}
 use Rattle.wb_point.specs.Shows.{shows}
 use Rattle.wb_point.specs.Dialogues.{normalised, dialogue_under}
+use Rattle.wb_point.specs.declared.question.Query.{Query}
+use Rattle.wb_query.specs.declared.asking.Found.{Found}
+use Rattle.wb_query.specs.declared.asking.AskFault.{AskFault}
+use Rattle.wb_query.specs.declared.asking.AskFault.TheVariants as ask
 use Rattle.wb_explore.specs.declared.plan.Plan.{Plan}
 use Rattle.wb_explore.specs.declared.entries.Entry.{Entry}
 use Rattle.wb_explore.specs.declared.going.Arrivals.{Arrivals}
@@ -29,7 +33,7 @@ use Rattle.wb_explore.specs.declared.faults.ExploreFault.{ExploreFault}
 use Rattle.wb_explore.specs.declared.faults.ExploreFault.TheVariants as fault
 use Rattle.wb_explore.specs.Purses.{Holding, points_of}
 use Rattle.wb_explore.specs.Faults.{AreTooMany}
-use Rattle.wb_explore.specs.Entries.{View, IsAt, IsAtSome, AreSound, AreApart, Carries, Joins, FollowsOn}
+use Rattle.wb_explore.specs.Entries.{View, IsAt, IsAtSome, AreSound, AreApart, Carries, Joins, FollowsOn, Taken}
 use Rattle.wb_explore.specs.Runs.{Comes}
 use Rattle.wb_explore.specs.Plans.{runs_of, is_chosen}
 use Rattle.wb_explore.specs.Layers.{AddsPassed}
@@ -228,3 +232,23 @@ pub record ArePutAhead (image : Image) (p : Plan) (g h : Terms) (before after : 
   pub ahead : AreAhead image p after fs bound
   pub count : length before + found_in fs ≤ length after + found_in es
   pub longer : length fs ≤ length es + 2
+
+-- the question under which inputs the held run of the plan's dialogue passes a point
+abbrev pub question_of : Plan → Point → Query
+question_of p key = record { kinds = p.kinds; marks = key ∷ []; fixed = []; last = [] }
+
+-- a fault of asking, with its question
+abbrev pub asked_by : Query → AskFault → ExploreFault
+asked_by q (ask.Spent b steps) = fault.Conflicts (record { query = q; blasted = b }) steps
+asked_by q (ask.BadAnswer b answer) = fault.BadAnswer (record { query = q; blasted = b }) answer
+asked_by q ask.OutOfMemory = fault.OutOfMemory
+
+-- what is found of an entry's condition, with the question where nothing is
+abbrev pub answered_by : Query → Result Found AskFault → Result Found ExploreFault
+answered_by q (Ok found) = Ok found
+answered_by q (Err e) = Err (asked_by q e)
+
+-- the entry of least rank was taken; or there was none
+abbrev pub IsTakenLeast : List Entry → List Entry → Option Entry → Type 0
+IsTakenLeast old new (Some e) = Taken old new e × All (λ f. e.rank ≤ f.rank) old
+IsTakenLeast old new None = (old ≡ []) × (new ≡ [])

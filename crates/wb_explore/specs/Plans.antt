@@ -1,11 +1,10 @@
 -- What a call explores: the dialogues of some kinds of transfers, one for each assignment of the inputs.
-use Rattle.std.specs.Prelude.{◌≡◌, ◌≤◌, Bool, true, false, Option, Some, None, List, slice_get, All}
+use Rattle.std.specs.Prelude.{◌≡◌, Bool, true, false, Option, Some, List, slice_get, All}
 use Rattle.wb_rom.specs.declared.images.Image.{Image}
 use Rattle.wb_term.specs.declared.nodes.WordNode.{WordNode}
 use Rattle.wb_term.specs.declared.nodes.WordNode.TheVariants.{Byte, Cell}
 use Rattle.wb_term.specs.declared.nodes.Node.{Node}
 use Rattle.wb_term.specs.declared.nodes.Node.TheVariants.{Word}
-use Rattle.wb_term.specs.Inputs.{Assignment}
 use Rattle.wb_port.specs.declared.accesses.Kind.{Kind}
 use Rattle.wb_port.specs.declared.accesses.Kind.TheVariants as kind
 use Rattle.wb_port.specs.declared.accesses.Power.{Power}

@@ -1,5 +1,5 @@
 -- A purse: how much may be spent, and the points that were reached, each with a dialogue whose held run passes it.
-use Rattle.std.specs.Prelude.{◌≢◌, ◌≤◌, List, [], ◌∷◌, ◌++◌, map, length, AllPairs}
+use Rattle.std.specs.Prelude.{◌≢◌, ◌≤◌, List, map, length, AllPairs}
 use Rattle.wb_port.specs.declared.points.Point.{Point}
 use Rattle.wb_explore.specs.declared.reached.ReachedPoint.{ReachedPoint}
 use Rattle.wb_explore.specs.declared.budget.Budget.{Budget}

@@ -1,12 +1,9 @@
 -- What an exploration has noted of a chip to which a held run comes, and what that says of all inputs.
-use Rattle.std.specs.Prelude.{◌≡◌, ◌≢◌, Bool, true, List, AllPairs, Contains}
+use Rattle.std.specs.Prelude.{◌≡◌, Bool, true, List, Contains}
 use Rattle.wb_term.specs.Inputs.{Assignment, IsAssignment}
-use Rattle.wb_word.specs.declared.numbers.Addr.{Addr}
 use Rattle.wb_port.specs.declared.chips.Chip.{Chip}
 use Rattle.wb_port.specs.declared.points.Point.{Point}
 use Rattle.wb_port.specs.Port.{rqm}
-use Rattle.wb_port.specs.Points.{Passes}
-use Rattle.wb_port.specs.Verdicts.{Breaks, Overruns}
 use Rattle.wb_law.specs.declared.classes.Class.TheVariants as class
 use Rattle.wb_law.specs.Classes.{DoesNext}
 use Rattle.wb_explore.specs.Runs.{Runs, Comes, Asks, point_in}

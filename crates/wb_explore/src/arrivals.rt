@@ -143,7 +143,14 @@ fn meet(
     ensures grown { Grown graph.old graph.new }
     ensures adds { AddsAtMost graph.old graph.new 301 5001 }
 {
-    note_newly(alloc, plan, purse, &entry.key, &entry.witness, &other.witness)?;
+    note_newly(
+        alloc,
+        plan,
+        purse,
+        &entry.key,
+        &entry.witness,
+        &other.witness,
+    )?;
     let joined = join(graph, alloc, image, plan, entry, other)?;
     Ok(joined)
 }

@@ -1,6 +1,6 @@
-ghost use Rattle.std.specs.Prelude.{◌≡◌, ◌≢◌, ◌<◌, ◌≤◌, ℕ, [], Some, IfOk, length, slice_get, All, Contains};
+ghost use Rattle.std.specs.Prelude.{◌≡◌, ◌≢◌, ◌<◌, ◌≤◌, ℕ, length, slice_index_or, All};
 ghost use Rattle.wb_explore.specs.declared.entries.Entry.{Entry};
-ghost use Rattle.wb_explore.specs.Pending.{IsPlaceOf};
+ghost use Rattle.wb_explore.specs.Pending.{IsPlaceOf, IsTakenLeast};
 
 use wb_point::{SymState, same_key};
 use wb_port::Point;
@@ -29,4 +29,33 @@ pub(crate) fn place_of(pending: &[Entry], key: &Point) -> Option<usize>
         }
     }
     None
+}
+
+/// The place of an entry of the least rank.
+fn least_place(pending: &[Entry]) -> usize
+    requires { 0 < length pending.now }
+    ensures within { result < length pending.now }
+    ensures least { (d : Entry) → All (λ f. (slice_index_or pending.now result d).rank ≤ f.rank) pending.now }
+{
+    let mut best = 0;
+    let mut rank = pending[0].rank;
+    for place in 0..pending.len() {
+        let here = pending[place].rank;
+        if here < rank {
+            best = place;
+            rank = here;
+        }
+    }
+    best
+}
+
+/// Takes out an entry of the least rank.
+pub(crate) fn take_least(pending: &mut Vec<Entry>) -> Option<Entry>
+    ensures { IsTakenLeast pending.old.items pending.new.items result }
+{
+    if pending.is_empty() {
+        return None;
+    }
+    let place = least_place(pending);
+    Some(pending.remove(place))
 }

@@ -349,7 +349,9 @@ fn put_arrivals(
 {
     match arrivals {
         Arrivals::One(one) => arrive_ahead(graph, alloc, image, plan, purse, pending, one, bound),
-        Arrivals::Two(one, two) => put_two(graph, alloc, image, plan, purse, pending, one, two, bound),
+        Arrivals::Two(one, two) => put_two(
+            graph, alloc, image, plan, purse, pending, one, two, bound,
+        ),
     }
 }
 
@@ -383,5 +385,7 @@ pub(crate) fn go_on(
     dialogues_are_of_their_kinds();
     states_stay();
     let arrivals = follow(graph, alloc, image, plan, entry)?;
-    put_arrivals(graph, alloc, image, plan, purse, pending, arrivals, entry.rank)
+    put_arrivals(
+        graph, alloc, image, plan, purse, pending, arrivals, entry.rank,
+    )
 }

@@ -1,4 +1,4 @@
-use Rattle.std.proofs.Common.{◌≡◌, ◌++◌, ◌∷◌, [], List, Option, Some, None, sym, ap, subst, ◌∙◌}
+use Rattle.std.proofs.Common.{◌≡◌, ◌++◌, ◌∷◌, [], List, Option, None, sym, ap, subst, ◌∙◌}
 use Rattle.wb_term.specs.Inputs.{Assignment}
 use Rattle.wb_explore.specs.declared.entries.Entry.{Entry}
 use Rattle.wb_explore.specs.declared.reached.ReachedPoint.{ReachedPoint}

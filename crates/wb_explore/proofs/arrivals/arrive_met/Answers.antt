@@ -1,13 +1,11 @@
-use Rattle.std.proofs.Common.{◌≡◌, ◌++◌, ◌∷◌, [], List, Option, Some, None, sym, ap, subst, ◌∙◌}
-use Rattle.std.specs.Prelude.{slice_index_or}
-use Rattle.wb_term.specs.Inputs.{Assignment}
+use Rattle.std.proofs.Common.{◌≡◌, List, sym, ap, subst}
 use Rattle.wb_explore.specs.declared.entries.Entry.{Entry}
 use Rattle.wb_explore.specs.declared.reached.ReachedPoint.{ReachedPoint}
 use Rattle.wb_explore.specs.Entries.{Taken}
 use Rattle.wb_explore.specs.Purses.{Holding}
 use Rattle.wb_explore.specs.Pending.{IsPut, IsMet, newly, with_noted}
 use Rattle.wb_explore.proofs.Putting.{put_met, newly_first}
-use Rattle.wb_explore.proofs.Lists.{removed, taken_itself}
+use Rattle.wb_explore.proofs.Lists.{taken_itself}
 use Rattle.wb_explore.proofs.Refusals.{if_err, on_ok_two, fresh_met, noted_or_not, same_budget, unput, found_key, taken_from}
 use Rattle.wb_explore.proofs.arrivals.arrive_met.Goals as goal
 

@@ -1,4 +1,4 @@
-use Rattle.std.proofs.Common.{◌≡◌, ◌≢◌, take, All}
+use Rattle.std.proofs.Common.{◌≢◌, take, All}
 use Rattle.wb_explore.proofs.entries.place_of.Given as goal
 
 abbrev pub invariant-loop-place : goal.invariant-loop-place

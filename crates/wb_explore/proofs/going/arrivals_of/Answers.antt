@@ -1,4 +1,4 @@
-use Rattle.std.proofs.Common.{◌≡◌, subst, sym}
+use Rattle.std.proofs.Common.{subst}
 use Rattle.wb_symstep.specs.declared.stepped.Stepped.{Stepped}
 use Rattle.wb_explore.specs.Pending.{StepsTo}
 use Rattle.wb_explore.proofs.going.arrivals_of.Goals as goal

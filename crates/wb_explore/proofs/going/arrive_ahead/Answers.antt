@@ -1,4 +1,4 @@
-use Rattle.std.proofs.Common.{arith, ◌<◌, ◌≤◌}
+use Rattle.std.proofs.Common.{arith, ◌<◌}
 use Rattle.wb_explore.proofs.Onward.{ahead_fresh, left_out}
 use Rattle.wb_explore.proofs.going.arrive_ahead.Goals as goal
 

@@ -1,4 +1,4 @@
-use Rattle.std.proofs.Common.{◌≡◌, ◌∙◌, ap, not, ◌&&◌, Bool}
+use Rattle.std.proofs.Common.{◌∙◌, ap, not, ◌&&◌, Bool}
 use Rattle.wb_term.specs.Values.{bit_value}
 use Rattle.wb_explore.proofs.Growth.{◌▸◌}
 use Rattle.wb_explore.proofs.going.branches.Goals as goal

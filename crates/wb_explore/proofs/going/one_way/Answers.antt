@@ -1,4 +1,4 @@
-use Rattle.std.proofs.Common.{◌≡◌, Option, subst}
+use Rattle.std.proofs.Common.{Option, subst}
 use Rattle.wb_term.specs.Inputs.{Assignment}
 use Rattle.wb_explore.specs.Pending.{IsNext}
 use Rattle.wb_explore.proofs.Growth.{grown_same}

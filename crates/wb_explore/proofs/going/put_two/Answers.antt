@@ -1,9 +1,8 @@
-use Rattle.std.proofs.Common.{◌≡◌, ◌∙◌, arith}
 use Rattle.wb_explore.proofs.Growth.{◌▸◌}
 use Rattle.wb_explore.proofs.Growing.{entry_grown, sound_grown, above_grown}
 use Rattle.wb_explore.specs.Plans.{runs_of}
 use Rattle.wb_explore.proofs.Refusals.{if_err, on_ok}
-use Rattle.wb_explore.proofs.Onward.{adds_on, adds_raised, put_two, adds_passed, unput_later}
+use Rattle.wb_explore.proofs.Onward.{adds_on, put_two, adds_passed, unput_later}
 use Rattle.wb_explore.proofs.going.put_two.Goals as goal
 
 pub arrive_ahead-requires-2-clause-entry : goal.arrive_ahead-requires-2-clause-entry
