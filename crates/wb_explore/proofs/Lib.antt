@@ -1,0 +1,12 @@
+pub mod Ways
+pub mod Covering
+pub mod Ending
+pub mod Growing
+pub mod Lists
+pub mod Putting
+pub mod Joining
+pub mod Growth
+pub mod Refusals
+pub mod Onward
+pub mod Following
+pub mod Wondering

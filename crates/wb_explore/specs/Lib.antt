@@ -1,0 +1,10 @@
+pub mod Entries
+pub mod Faults
+pub mod Growth
+pub mod HeldLaws
+pub mod Layers
+pub mod Pending
+pub mod Plans
+pub mod Purses
+pub mod Runs
+pub mod Seen

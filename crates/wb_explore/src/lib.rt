@@ -1,0 +1,37 @@
+//! The explorer: from power-up it follows one side through every dialogue of some kinds at once.
+//!
+//! It steps a symbolic chip, forks where a condition is open, joins where two ways meet at one point, asks whether a
+//! point can be reached, and stops at the requests, which are a layer. What is said of all inputs stands in `specs/`:
+//! `Runs` has the held runs of one dialogue for each assignment of the inputs, `Entries` what an entry says of them
+//! and when a list of entries covers them, `Seen` what was noted, `Layers` what a layer is and knows, `Faults` why a
+//! call stops before its end.
+//!
+//! - `budget`, `reached`, `purse`: how much may be spent, and the points that were reached.
+//! - `layer`, `plan`: the request states of a layer, and what a call explores.
+//! - `faults`: why an exploration stops.
+//!
+//! The private files: `entries` has the pending entries, one for each point ahead; `arrivals` puts an entry among them
+//! and notes its point; `going` goes on from an entry by one instruction; `questions` asks whether a point is passed;
+//! `facts` has what the proofs take from the crates below.
+#![tactic(auto)]
+
+mod arrivals;
+mod budget;
+mod entries;
+mod facts;
+mod faults;
+mod going;
+mod layer;
+mod plan;
+mod purse;
+mod questions;
+mod reached;
+#[cfg(test)]
+mod tests;
+
+pub use budget::Budget;
+pub use faults::{Asked, ExploreFault};
+pub use layer::{Layer, Request};
+pub use plan::Plan;
+pub use purse::Purse;
+pub use reached::{Reached, ReachedPoint};
