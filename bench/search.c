@@ -1,4 +1,4 @@
-/* The search without watched literals, over clauses in DIMACS: a plain pass over all clauses until nothing changes.
+/* The search in its plainest form, over clauses in DIMACS: a plain pass over all clauses until nothing changes.
    Prints the conflicts and the literals that clauses made true. */
 #include <stdio.h>
 #include <stdlib.h>

@@ -23,7 +23,7 @@ def build(folder):
     (crate / "proofs/Lib.antt").touch()
     shutil.copy(TOP / "bench/search.txt", crate / "src/main.rt")
     subprocess.run(["git", "init", "-q", folder], check=True)
-    subprocess.run(["rt", "run", "--", "none", "build"], cwd=crate, check=True, stdout=subprocess.DEVNULL, stderr=subprocess.DEVNULL)
+    subprocess.run(["rt", "run", "--", "parity", "3", "build"], cwd=crate, check=True, stdout=subprocess.DEVNULL, stderr=subprocess.DEVNULL)
     return crate / "out/searchbench"
 
 
@@ -54,7 +54,7 @@ class Formula:
             out.writelines(" ".join(map(str, clause)) + " 0\n" for clause in self.clauses)
 
 
-def chain():
+def chain(gates):
     """As `chain` of search.txt makes it."""
     formula, values, state = Formula(2), [True, True], 7725
 
@@ -65,7 +65,7 @@ def chain():
     def truth(lit):
         return values[abs(lit) - 1] == (lit > 0)
 
-    for _ in range(GATES):
+    for _ in range(gates):
         state = (state * 6364136223846793005 + 1442695040888963407) % 2 ** 64
         x, y, z = earlier(40, 33), earlier(48, 34), earlier(56, 35)
         a, b, d = truth(x), truth(y), truth(z)
@@ -78,13 +78,14 @@ def chain():
     return formula
 
 
-def parities():
-    formula = Formula(INPUTS)
+def parities(inputs):
+    """As `parity` of search.txt makes it."""
+    formula = Formula(inputs)
     one = two = 1
-    for var in range(1, INPUTS):
+    for var in range(1, inputs):
         one = formula.add("xor", one, var + 1)
-    for var in range(1, INPUTS):
-        two = formula.add("xor", two, var * 5 % INPUTS + 1)
+    for var in range(1, inputs):
+        two = formula.add("xor", two, var * 5 % inputs + 1)
     formula.clauses.append((formula.add("xor", one, two),))
     return formula
 
@@ -116,10 +117,10 @@ def main():
     with tempfile.TemporaryDirectory() as folder:
         folder = pathlib.Path(folder)
         program = pathlib.Path(sys.argv[1]) if len(sys.argv) > 1 else build(folder)
-        for name, formula in [("chain", chain()), ("parity", parities())]:
+        for name, size, formula in [("chain", GATES, chain(GATES)), ("parity", INPUTS, parities(INPUTS))]:
             text = folder / name
             formula.write(text)
-            made, solved, checked = (timed([program, name, action], 0) for action in ["build", "solve", "check"])
+            made, solved, checked = (timed([program, name, str(size), action], 0) for action in ["build", "solve", "check"])
             mini, cada = timed(["minisat", text], 20), timed(["cadical", "-q", text], 20)
             ours, both = solved[0] - made[0], checked[0] - made[0]
             print(f"{name}: search {ours:.2f} s, with the check {both:.2f} s, minisat {mini[0]:.2f} s, cadical {cada[0]:.2f} s; "
@@ -133,4 +134,5 @@ def main():
                       f"minisat {theirs / 1e6:.1f}; ratio {propagations / ours / theirs:.2f}; check / search {both / ours - 1:.2f}")
 
 
-main()
+if __name__ == "__main__":
+    main()

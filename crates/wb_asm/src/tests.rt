@@ -1,10 +1,13 @@
 use crate::{AsmError, AsmFault, AsmKind, assemble};
+use std::alloc::Global;
 use std::process::Abort;
 use std::test::Fail;
 use wb_rom::Image;
 
-/// Sources, and the first words of the program and of the data that they give.
-const SOURCES: [(&[u8], &[u32], &[u32]); 13] = [
+/// A source, and the first words of the program and of the data that it gives.
+type Assembled = (&'static [u8], &'static [u32], &'static [u32]);
+
+const SOURCES: [Assembled; 13] = [
     (b"", &[0, 0], &[0]),
     (b"ld a,0x1234", &[0xC4_8D01, 0], &[0]),
     (b"jmp there\nnop\nthere: nop\n", &[0xA0_0008, 0, 0], &[0]),
@@ -46,8 +49,10 @@ const SOURCES: [(&[u8], &[u32], &[u32]); 13] = [
     (b"\t \r\n;\xFF\n\n", &[0], &[0]),
 ];
 
-/// Faulty sources, and the line and the kind of the first fault.
-const FAULTS: [(&[u8], u32, AsmKind); 36] = [
+/// A faulty source, and the line and the kind of its first fault.
+type Faulty = (&'static [u8], u32, AsmKind);
+
+const FAULTS: [Faulty; 36] = [
     (b"nop\nld a,%", 2, AsmKind::Byte(6)),
     (b"nop\rnop", 1, AsmKind::Byte(4)),
     (b".word 4294967296", 1, AsmKind::Wide),
@@ -101,45 +106,64 @@ fn check_image(rt: &impl Abort, image: &Image, prog: &[u32], drom: &[u32]) {
     }
 }
 
-#[test]
-fn sources_give_their_words(rt: HostRuntime) -> Result<(), Fail> {
-    for (text, prog, drom) in SOURCES {
+fn expect_words(rt: &impl Abort, alloc: Global, rows: &[Assembled]) -> Result<(), Fail> {
+    for (text, prog, drom) in rows {
         assert!(rt; text.len() <= 1_048_576);
-        check_image(&rt, &assemble(rt.alloc(), text)?, prog, drom);
+        check_image(rt, &assemble(alloc, text)?, prog, drom);
     }
     Ok(())
 }
 
-#[test]
-fn the_first_fault_is_told(rt: HostRuntime) {
-    for (text, line, kind) in FAULTS {
-        assert!(rt; text.len() <= 1_048_576);
-        let found = assemble(rt.alloc(), text).err();
-        assert_eq!(rt;
-            found,
-            Some(AsmError::Fault(AsmFault { line, kind })),
-            "{text:?}"
+fn expect_faults(rt: &impl Abort, alloc: Global, rows: &[Faulty]) {
+    for (text, line, kind) in rows {
+        expect_fault(
+            rt,
+            alloc,
+            text,
+            AsmFault {
+                line: *line,
+                kind: *kind,
+            },
         );
     }
 }
 
+/// The first fault of a text is this.
+fn expect_fault(rt: &impl Abort, alloc: Global, text: &[u8], fault: AsmFault) {
+    assert!(rt; text.len() <= 1_048_576);
+    let found = assemble(alloc, text).err();
+    assert_eq!(rt; found, Some(AsmError::Fault(fault)), "{text:?}");
+}
+
 #[test]
-fn too_many_words(rt: HostRuntime) -> Result<(), Fail> {
-    let mut text = Vec::new(rt.alloc());
-    for _ in 0..2048 {
+fn sources_give_their_words(rt: HostRuntime) -> Result<(), Fail> {
+    expect_words(&rt, rt.alloc(), &SOURCES)
+}
+
+#[test]
+fn the_first_fault_is_told(rt: HostRuntime) {
+    expect_faults(&rt, rt.alloc(), &FAULTS);
+}
+
+/// So many lines that do nothing.
+fn idle_lines(alloc: Global, count: usize) -> Result<Vec<u8>, Fail> {
+    let mut text = Vec::new(alloc);
+    for _ in 0..count {
         text.extend_from_slice(b"nop\n")?;
     }
-    assert!(rt; text.len() == 8192);
-    assert!(rt; assemble(rt.alloc(), &text).is_ok());
-    text.extend_from_slice(b"nop")?;
-    assert!(rt; text.len() == 8195);
-    let fault = AsmFault {
+    Ok(text)
+}
+
+#[test]
+fn too_many_words(rt: HostRuntime) -> Result<(), Fail> {
+    let most = idle_lines(rt.alloc(), 2048)?;
+    assert!(rt; most.len() == 8192);
+    assert!(rt; assemble(rt.alloc(), &most).is_ok());
+    let more = idle_lines(rt.alloc(), 2049)?;
+    let past = AsmFault {
         line: 2049,
         kind: AsmKind::Past,
     };
-    assert_eq!(rt;
-        assemble(rt.alloc(), &text).err(),
-        Some(AsmError::Fault(fault))
-    );
+    expect_fault(&rt, rt.alloc(), &more, past);
     Ok(())
 }

@@ -7,7 +7,7 @@
 //! An `Entry` is what one bit is in a formula, a `Word` what sixteen are, the lowest first. `blasting` has the
 //! formulas, `meeting` the walk that meets the nodes and numbers the inputs, `building` the rows of the nodes in order
 //! of number, `circuits` the circuit of one node, `rows` what the nodes are, and `places` the places of input
-//! variables. `number` has the gate number and `laws` that there is one, `children` the numbers below a node and its
+//! variables. `number` has the gate number and `laws` that there is one and that it is light, `children` the numbers below a node and its
 //! weight. `sharing` has the formula in the making, in which equal gates are one. The circuits stand in `entries`, over
 //! bits, `bitwise`, bit by bit on words, `shifts`, `inputs`, the words of input variables, `words`, which add, subtract
 //! and compare, `products` and `lookups`. `specs/Blasting.antt` and `specs/Places.antt` say what a formula means,
@@ -36,6 +36,6 @@ mod words;
 
 pub use blasting::{Blasted, Many, blast, blast_many};
 pub use entries::Entry;
-pub use laws::gate_numbers_agree;
+pub use laws::{gate_numbers_agree, gate_numbers_are_light};
 pub use number::count_gates;
 pub use places::Place;

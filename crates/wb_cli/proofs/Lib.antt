@@ -1,6 +1,8 @@
 mod Counting
-mod Digits
+mod Deciding
+mod Demos
 mod Holding
 mod Once
+mod Telling
 mod Valid
 pub mod Checked

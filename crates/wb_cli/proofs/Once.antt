@@ -1,5 +1,5 @@
 -- Calls have one answer.
-use Rattle.std.proofs.Common.{◌≡◌, ◌≢◌, ℕ, zero, suc, ◌<◌, List, [], ◌∷◌, length, Option, None, Some, Result, Ok, Err, refl, sym, ◌∙◌, ap, subst, inl, inr, arith}
+use Rattle.std.proofs.Common.{◌≡◌, ◌≢◌, ℕ, zero, suc, ◌<◌, List, [], ◌∷◌, ◌++◌, length, Option, None, Some, Result, Ok, Err, refl, sym, ◌∙◌, ap, subst, inl, inr, arith}
 use std.Path.{fun_ext}
 use Rattle.wb_base.specs.Faults.{Rose}
 use Rattle.wb_base.specs.Shelf.{Content, IsLonger, IsWhole}
@@ -21,10 +21,14 @@ use Rattle.wb_cli.specs.declared.statuses.Status.TheVariants as status
 use Rattle.wb_cli.specs.Answers.{Answers, Met, Put, Writes}
 use Rattle.wb_cli.specs.Checks.{Held, AnImage, AScript, SomeMoves, FirstRefused}
 use Rattle.wb_cli.specs.Files.{Contents, limit_of, Reads, ReadsAll, FirstUnread, CouldNot, TooLong}
-use Rattle.wb_cli.specs.Once.{AreAlike, IsCalm, TookOneText}
+use Rattle.wb_cli.specs.Once.{AreAlike, IsCalm, IsSettled, IsSettledPlan, TookOneText}
 use Rattle.wb_cli.specs.Outcome.{Makes, Works, PlanComesTo, ComesTo}
-use Rattle.wb_cli.specs.Plan.{NamedFile, Plan, Task, Run, Assemble, Disassemble, Trace, kinds_of, plan_of}
-use Rattle.wb_cli.specs.Report.{IsReply, IsReport}
+use Rattle.wb_cli.specs.Plan.{NamedFile, Plan, Task, Run, Assemble, Disassemble, Trace, Compare, Demo, kinds_of, plan_of}
+use Rattle.wb_cli.specs.Report.{IsReply, IsReport, IsTextOf, demo_line, words_line}
+use Rattle.wb_report.specs.Digits.{with_feed}
+use Rattle.wb_report.specs.Laws.{VerdictsHaveOneText}
+use Rattle.wb_report.specs.Verdicts.{Begins}
+use Rattle.wb_cli.specs.declared.comparing.Compared.{Compared}
 use Rattle.wb_cli.specs.Status.{ending_status}
 use Rattle.wb_cli.proofs.Holding.{KindLaws, held_once, refused_once, held_or_refused}
 
@@ -32,21 +36,33 @@ use Rattle.wb_cli.proofs.Holding.{KindLaws, held_once, refused_once, held_or_ref
 pub record WorkLaws : Type 0 where
   pub kinds : KindLaws
   pub one_file : (first second : List ℕ) (image : Image) → IsImageOf first image → IsImageOf second image → first ≡ second
+  pub one_text : VerdictsHaveOneText
   pub one_transcript : (image : Image) (items : List Item) (t other : Transcript) → IsTranscript image items t → IsTranscript image items other → t ≡ other
 
 -- the same work on the same files makes one outcome
-makes_once : WorkLaws → (task : Task) (held : List Held) (made other : Outcome) → Makes task held made → Makes task held other → made ≡ other
-makes_once laws Run (AnImage image ∷ AScript items ∷ []) (outcome.Ran transcript) (outcome.Ran other) h k =
+makes_once : WorkLaws → (task : Task) → IsSettled task → (held : List Held) (made other : Outcome) → Makes task held made → Makes task held other → made ≡ other
+makes_once laws Run settled (AnImage image ∷ AScript items ∷ []) (outcome.Ran transcript) (outcome.Ran other) h k =
     ap outcome.Ran (laws.one_transcript image items transcript other h k)
-makes_once laws Run (AnImage image ∷ AScript items ∷ []) (outcome.Ran transcript) _ h k = absurd k
-makes_once laws Assemble (AnImage image ∷ []) (outcome.Assembled built) (outcome.Assembled other) h k = ap outcome.Assembled (h ∙ sym k)
-makes_once laws Assemble (AnImage image ∷ []) (outcome.Assembled built) _ h k = absurd k
-makes_once laws Disassemble (AnImage image ∷ []) (outcome.Listed listed) (outcome.Listed other) h k = ap outcome.Listed (h ∙ sym k)
-makes_once laws Disassemble (AnImage image ∷ []) (outcome.Listed listed) _ h k = absurd k
-makes_once laws (Trace depth) (AnImage a ∷ AnImage b ∷ SomeMoves moves ∷ []) (outcome.Traced text) (outcome.Traced other) h k =
+makes_once laws Run settled (AnImage image ∷ AScript items ∷ []) (outcome.Ran transcript) _ h k = absurd k
+makes_once laws Assemble settled (AnImage image ∷ []) (outcome.Assembled built) (outcome.Assembled other) h k = ap outcome.Assembled (h ∙ sym k)
+makes_once laws Assemble settled (AnImage image ∷ []) (outcome.Assembled built) _ h k = absurd k
+makes_once laws Disassemble settled (AnImage image ∷ []) (outcome.Listed listed) (outcome.Listed other) h k = ap outcome.Listed (h ∙ sym k)
+makes_once laws Disassemble settled (AnImage image ∷ []) (outcome.Listed listed) _ h k = absurd k
+makes_once laws (Trace depth) settled (AnImage a ∷ AnImage b ∷ SomeMoves moves ∷ []) (outcome.Traced text) (outcome.Traced other) h k =
     ap outcome.Traced (h ∙ sym k)
-makes_once laws (Trace depth) (AnImage a ∷ AnImage b ∷ SomeMoves moves ∷ []) (outcome.Traced text) _ h k = absurd k
-makes_once laws _ _ _ other h k = absurd h
+makes_once laws (Trace depth) settled (AnImage a ∷ AnImage b ∷ SomeMoves moves ∷ []) (outcome.Traced text) _ h k = absurd k
+makes_once laws (Compare question) settled held made other h k = absurd settled
+makes_once laws (Demo number) settled held made other h k = absurd settled
+makes_once laws _ settled _ _ other h k = absurd h
+
+-- what a line is before has one text, if it has one without the line
+begins_once : (line : List ℕ) (P : List ℕ → Type 0) → ((text other : List ℕ) → P text → P other → text ≡ other) → (text other : List ℕ) → Begins line P text → Begins line P other → text ≡ other
+begins_once line P once text other h k =
+    h.parts ∙ ap (λ xs. with_feed line ++ xs) (once h.rest k.rest h.holds k.holds) ∙ sym k.parts
+
+verdict_once : WorkLaws → (compared : Compared) (text other : List ℕ) → IsTextOf compared text → IsTextOf compared other → text ≡ other
+verdict_once laws compared text other h k =
+    laws.one_text compared.first compared.second compared.comparison.question compared.verdict text other h k
 
 -- an outcome has one report
 report_once : WorkLaws → (made : Outcome) (text other : List ℕ) → IsReport made text → IsReport made other → text ≡ other
@@ -54,6 +70,10 @@ report_once laws (outcome.Ran transcript) text other h k = h ∙ sym k
 report_once laws (outcome.Assembled image) text other h k = laws.one_file text other image h k
 report_once laws (outcome.Listed image) text other h k = h ∙ sym k
 report_once laws (outcome.Traced traced) text other h k = h ∙ sym k
+report_once laws (outcome.Compared compared) text other h k = verdict_once laws compared text other h k
+report_once laws (outcome.Demonstrated number compared) text other h k =
+    begins_once (demo_line number) (Begins words_line (IsTextOf compared))
+    (begins_once words_line (IsTextOf compared) (verdict_once laws compared)) text other h k
 
 replied_once : WorkLaws → (result : Result Outcome Refusal) (end last : Ending) (text other : List ℕ) → IsReply result end text → IsReply result last other → (end ≡ last) × (text ≡ other)
 replied_once laws (Ok made) end last text other h k = (h.0 ∙ sym k.0, report_once laws made text other h.1 k.1)
@@ -125,15 +145,15 @@ abbrev Ends : Task → List Kind → List (List ℕ) → Result Outcome Refusal 
 Ends task kinds contents (Ok made) = Works task kinds contents made
 Ends task kinds contents (Err refused) = FirstRefused 0 kinds contents refused
 
-ends_once : WorkLaws → (task : Task) (kinds : List Kind) (contents : List (List ℕ)) (result other : Result Outcome Refusal)
+ends_once : WorkLaws → (task : Task) → IsSettled task → (kinds : List Kind) (contents : List (List ℕ)) (result other : Result Outcome Refusal)
     → Ends task kinds contents result → Ends task kinds contents other → result ≡ other
-ends_once laws task kinds contents (Ok made) (Ok other) h k =
+ends_once laws task settled kinds contents (Ok made) (Ok other) h k =
     let one : h.held ≡ k.held = held_once laws.kinds kinds contents h.held k.held h.holds k.holds in
     let makes : Makes task k.held made = subst (λ held. Makes task held made) one h.makes in
-    ap Ok (makes_once laws task k.held made other makes k.makes)
-ends_once laws task kinds contents (Ok made) (Err refused) h k = absurd (held_or_refused laws.kinds 0 kinds contents h.held refused h.holds k)
-ends_once laws task kinds contents (Err refused) (Ok made) h k = absurd (held_or_refused laws.kinds 0 kinds contents k.held refused k.holds h)
-ends_once laws task kinds contents (Err refused) (Err other) h k = ap Err (refused_once laws.kinds 0 kinds contents refused other h k)
+    ap Ok (makes_once laws task settled k.held made other makes k.makes)
+ends_once laws task settled kinds contents (Ok made) (Err refused) h k = absurd (held_or_refused laws.kinds 0 kinds contents h.held refused h.holds k)
+ends_once laws task settled kinds contents (Err refused) (Ok made) h k = absurd (held_or_refused laws.kinds 0 kinds contents k.held refused k.holds h)
+ends_once laws task settled kinds contents (Err refused) (Err other) h k = ap Err (refused_once laws.kinds 0 kinds contents refused other h k)
 
 -- two calls on one shelf, which tells its contents, with no counted fault
 record Calm : Type 0 where
@@ -176,37 +196,37 @@ from_longer c plan place (Err (refusal.TooLong other)) h k =
     ap (λ p. Err (refusal.TooLong p)) same.0
 from_longer c plan place (Err refused) h k = absurd (all_read c.told (TooLong c.told) plan.files k.contents place (not_longer c.told c.tells) k.whole h)
 
-from_contents : WorkLaws → (c : Calm) (plan : Plan) (contents : List (List ℕ)) (result other : Result Outcome Refusal)
+from_contents : WorkLaws → (c : Calm) (plan : Plan) → IsSettled plan.task → (contents : List (List ℕ)) (result other : Result Outcome Refusal)
     → ReadsAll c.told plan.files contents → Ends plan.task (kinds_of plan.files) contents result
     → PlanComesTo c.told c.then c.last plan other → result ≡ other
-from_contents laws c plan contents result (Ok made) reads ends k =
+from_contents laws c plan settled contents result (Ok made) reads ends k =
     let same : k.contents ≡ contents = read_once c.told c.tells plan.files k.contents contents k.whole reads in
     let also : Works plan.task (kinds_of plan.files) contents made = subst (λ xs. Works plan.task (kinds_of plan.files) xs made) same k.holds in
-    ends_once laws plan.task (kinds_of plan.files) contents result (Ok made) ends also
-from_contents laws c plan contents result (Err (refusal.ReadFault place)) reads ends k =
+    ends_once laws plan.task settled (kinds_of plan.files) contents result (Ok made) ends also
+from_contents laws c plan settled contents result (Err (refusal.ReadFault place)) reads ends k =
     absurd (all_read c.told (CouldNot c.told c.then c.last) plan.files contents place (not_missing c.told c.then c.last c.also_calm) reads k)
-from_contents laws c plan contents result (Err (refusal.TooLong place)) reads ends k =
+from_contents laws c plan settled contents result (Err (refusal.TooLong place)) reads ends k =
     absurd (all_read c.told (TooLong c.told) plan.files contents place (not_longer c.told c.tells) reads k.0)
-from_contents laws c plan contents result (Err refused) reads ends k =
+from_contents laws c plan settled contents result (Err refused) reads ends k =
     let same : k.contents ≡ contents = read_once c.told c.tells plan.files k.contents contents k.whole reads in
     let also : FirstRefused 0 (kinds_of plan.files) contents refused = subst (λ xs. FirstRefused 0 (kinds_of plan.files) xs refused) same k.holds in
-    ends_once laws plan.task (kinds_of plan.files) contents result (Err refused) ends also
+    ends_once laws plan.task settled (kinds_of plan.files) contents result (Err refused) ends also
 
-plan_once : WorkLaws → (c : Calm) (plan : Plan) (result other : Result Outcome Refusal)
+plan_once : WorkLaws → (c : Calm) (plan : Plan) → IsSettled plan.task → (result other : Result Outcome Refusal)
     → PlanComesTo c.told c.before c.now plan result → PlanComesTo c.told c.then c.last plan other → result ≡ other
-plan_once laws c plan (Ok made) other h k = from_contents laws c plan h.contents (Ok made) other h.whole h.holds k
-plan_once laws c plan (Err (refusal.ReadFault place)) other h k = from_missing c plan place other h k
-plan_once laws c plan (Err (refusal.TooLong place)) other h k = from_longer c plan place other h.0 k
-plan_once laws c plan (Err refused) other h k = from_contents laws c plan h.contents (Err refused) other h.whole h.holds k
+plan_once laws c plan settled (Ok made) other h k = from_contents laws c plan settled h.contents (Ok made) other h.whole h.holds k
+plan_once laws c plan settled (Err (refusal.ReadFault place)) other h k = from_missing c plan place other h k
+plan_once laws c plan settled (Err (refusal.TooLong place)) other h k = from_longer c plan place other h.0 k
+plan_once laws c plan settled (Err refused) other h k = from_contents laws c plan settled h.contents (Err refused) other h.whole h.holds k
 
 bad_words : (told : Contents) (before now : ℕ) (result : Result Outcome Refusal) → ComesTo told before now None result → result ≡ Err refusal.BadWords
 bad_words told before now (Err refusal.BadWords) h = refl
 bad_words told before now _ h = absurd h
 
-came_once : WorkLaws → (c : Calm) (plan : Option Plan) (result other : Result Outcome Refusal)
+came_once : WorkLaws → (c : Calm) (plan : Option Plan) → IsSettledPlan plan → (result other : Result Outcome Refusal)
     → ComesTo c.told c.before c.now plan result → ComesTo c.told c.then c.last plan other → result ≡ other
-came_once laws c None result other h k = bad_words c.told c.before c.now result h ∙ sym (bad_words c.told c.then c.last other k)
-came_once laws c (Some plan) result other h k = plan_once laws c plan result other h k
+came_once laws c None settled result other h k = bad_words c.told c.before c.now result h ∙ sym (bad_words c.told c.then c.last other k)
+came_once laws c (Some plan) settled result other h k = plan_once laws c plan settled result other h k
 
 -- a report that was written whole
 record Wrote (met : Met) (put : Put) (answer : Status) : Type 0 where
@@ -219,14 +239,16 @@ wrote met put status.Fine calm answers = record { end = ending.Fine; answer_is =
 wrote met put status.Shown calm answers = record { end = ending.Shown; answer_is = refl; writes = answers }
 wrote met put status.BadWords calm answers = record { end = ending.BadWords; answer_is = refl; writes = answers }
 wrote met put status.Refused calm answers = record { end = ending.Refused; answer_is = refl; writes = answers }
+wrote met put status.Breach calm answers = record { end = ending.Breach; answer_is = refl; writes = answers }
+wrote met put (status.Unknown spent) calm answers = record { end = ending.Unknown spent; answer_is = refl; writes = answers }
 wrote met put status.ReadFault calm answers = record { end = ending.ReadFault; answer_is = refl; writes = answers }
 wrote met put status.WriteFault calm answers = absurd (calm.no_write_fault answers.rose)
 wrote met put status.NoMemory calm answers = absurd (calm.had_memory refl)
 
 pub answer_once : WorkLaws → (met other : Met) (put also : Put) (answer second : Status) → AreAlike met other
-    → IsCalm met put answer → IsCalm other also second → Answers met put answer → Answers other also second
+    → IsSettledPlan (plan_of met.words) → IsCalm met put answer → IsCalm other also second → Answers met put answer → Answers other also second
     → (answer ≡ second) × TookOneText put also
-answer_once laws met other put also answer second alike calm quiet answers others =
+answer_once laws met other put also answer second alike settled calm quiet answers others =
     let first = wrote met put answer calm answers in
     let later = wrote other also second quiet others in
     let told : other.told ≡ met.told = fun_ext (λ name. sym (alike.contents name)) in
@@ -246,7 +268,7 @@ answer_once laws met other put also answer second alike calm quiet answers other
     let came_here : ComesTo met.told other.faults_before other.faults_after (plan_of met.words) right.result =
     subst (λ words. ComesTo met.told other.faults_before other.faults_after (plan_of words) right.result) (sym alike.words) came in
     let same : first.writes.right.result ≡ right.result =
-    came_once laws c (plan_of met.words) first.writes.right.result right.result first.writes.right.came_to came_here in
+    came_once laws c (plan_of met.words) settled first.writes.right.result right.result first.writes.right.came_to came_here in
     let reply : IsReply right.result first.end first.writes.text =
     subst (λ r. IsReply r first.end first.writes.text) same first.writes.right.reply in
     let both = replied_once laws right.result first.end later.end first.writes.text later.writes.text reply right.reply in (

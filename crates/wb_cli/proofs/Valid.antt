@@ -13,12 +13,18 @@ use Rattle.wb_session.specs.declared.transcripts.Ended.{Ended}
 use Rattle.wb_session.specs.declared.transcripts.Transcript.{Transcript}
 use Rattle.wb_session.specs.declared.transcripts.Ended.TheVariants.{Done, Early, Silent}
 use Rattle.wb_cli.specs.Answers.{Answers, IsRight, Met, Put}
-use Rattle.wb_cli.specs.Checks.{Held, AnImage, SomeMoves, HoldsAll}
+use Rattle.wb_cli.specs.Checks.{Held, AnImage, AScript, SomeMoves, HoldsAll}
 use Rattle.wb_cli.specs.Complete.{Tells, IsValid, IsDone, IsExpected}
 use Rattle.wb_cli.specs.Files.{Contents, limit_of, ReadsAll, FirstUnread, CouldNot, TooLong}
 use Rattle.wb_cli.specs.Outcome.{Makes, PlanComesTo, ComesTo}
-use Rattle.wb_cli.specs.Plan.{NamedFile, Plan, Task, Run, Assemble, Disassemble, Trace, kinds_of}
-use Rattle.wb_cli.specs.Report.{IsReply, outcome_ending, transcript_ending}
+use Rattle.wb_cli.specs.Plan.{NamedFile, Plan, Task, Run, Assemble, Disassemble, Trace, Compare, Demo, kinds_of}
+use Rattle.wb_cli.specs.Report.{IsReply, outcome_ending, transcript_ending, verdict_ending}
+use Rattle.wb_compare.specs.declared.questions.Question.{Question}
+use Rattle.wb_compare.specs.declared.verdicts.Verdict.{Verdict}
+use Rattle.wb_compare.specs.declared.verdicts.Verdict.TheVariants as verdict
+use Rattle.wb_cli.specs.declared.comparing.Compared.{Compared}
+use Rattle.wb_cli.specs.Comparison.{IsDemonstration}
+use Rattle.wb_cli.proofs.Deciding.{DemoLaws, demo_keeps}
 use Rattle.wb_cli.specs.Status.{ending_status}
 use Rattle.wb_cli.proofs.Holding.{KindLaws, held_once, held_or_refused}
 
@@ -91,6 +97,8 @@ valid_is_done laws met put status.Fine plan held answers valid = inr (right_is_d
 valid_is_done laws met put status.Shown plan held answers valid = inr (right_is_done laws met put plan held ending.Shown answers.text valid answers.right)
 valid_is_done laws met put status.BadWords plan held answers valid = inr (right_is_done laws met put plan held ending.BadWords answers.text valid answers.right)
 valid_is_done laws met put status.Refused plan held answers valid = inr (right_is_done laws met put plan held ending.Refused answers.text valid answers.right)
+valid_is_done laws met put status.Breach plan held answers valid = inr (right_is_done laws met put plan held ending.Breach answers.text valid answers.right)
+valid_is_done laws met put (status.Unknown spent) plan held answers valid = inr (right_is_done laws met put plan held (ending.Unknown spent) answers.text valid answers.right)
 valid_is_done laws met put status.ReadFault plan held answers valid = inr (right_is_done laws met put plan held ending.ReadFault answers.text valid answers.right)
 valid_is_done laws met put status.WriteFault plan held answers valid = absurd (valid.no_write_fault answers.rose)
 valid_is_done laws met put status.NoMemory plan held answers valid = inl refl
@@ -101,36 +109,24 @@ run_is_expected Done = tt
 run_is_expected (Early number) = tt
 run_is_expected (Silent number) = tt
 
--- only a script that is run has a transcript
-listing_never_runs : (held : List Held) (transcript : Transcript) → Makes Disassemble held (outcome.Ran transcript) → ⊥
-listing_never_runs (AnImage image ∷ []) transcript makes = makes
-listing_never_runs _ transcript makes = makes
+verdict_is_expected : (q : Question) (v : Verdict) → IsExpected (Compare q) (ending_status (verdict_ending v))
+verdict_is_expected q (verdict.Equal p) = tt
+verdict_is_expected q (verdict.Different d) = tt
+verdict_is_expected q (verdict.Breach s d at) = tt
+verdict_is_expected q (verdict.Unknown spent) = tt
 
-assembly_never_runs : (held : List Held) (transcript : Transcript) → Makes Assemble held (outcome.Ran transcript) → ⊥
-assembly_never_runs (AnImage image ∷ []) transcript makes = makes
-assembly_never_runs _ transcript makes = makes
+demo_is_expected : DemoLaws → (number : ℕ) (c : Compared) → IsDemonstration number c → IsExpected (Demo number) (ending_status (verdict_ending c.verdict))
+demo_is_expected laws number c h =
+    subst (λ v. IsExpected (Demo number) (ending_status (verdict_ending v))) (sym (demo_keeps laws number c h)) tt
 
-trace_never_runs : (depth : ℕ) (held : List Held) (transcript : Transcript) → Makes (Trace depth) held (outcome.Ran transcript) → ⊥
-trace_never_runs depth (AnImage a ∷ AnImage b ∷ SomeMoves moves ∷ []) transcript makes = makes
-trace_never_runs depth _ transcript makes = makes
+outcome_is_expected : DemoLaws → (task : Task) (held : List Held) (made : Outcome) → Makes task held made → IsExpected task (ending_status (outcome_ending made))
+outcome_is_expected laws Run (AnImage image ∷ AScript items ∷ []) (outcome.Ran transcript) makes = run_is_expected transcript.ended
+outcome_is_expected laws Assemble (AnImage image ∷ []) (outcome.Assembled built) makes = tt
+outcome_is_expected laws Disassemble (AnImage image ∷ []) (outcome.Listed listed) makes = tt
+outcome_is_expected laws (Trace depth) (AnImage a ∷ AnImage b ∷ SomeMoves moves ∷ []) (outcome.Traced text) makes = tt
+outcome_is_expected laws (Compare q) (AnImage a ∷ AnImage b ∷ []) (outcome.Compared c) makes = verdict_is_expected q c.verdict
+outcome_is_expected laws (Demo number) [] (outcome.Demonstrated of c) makes = demo_is_expected laws number c makes.1
+outcome_is_expected laws _ _ _ makes = absurd makes
 
-outcome_is_expected : (task : Task) (held : List Held) (made : Outcome) → Makes task held made → IsExpected task (ending_status (outcome_ending made))
-outcome_is_expected Run held (outcome.Ran transcript) makes = run_is_expected transcript.ended
-outcome_is_expected Run held (outcome.Assembled image) makes = tt
-outcome_is_expected Run held (outcome.Listed image) makes = tt
-outcome_is_expected Run held (outcome.Traced text) makes = tt
-outcome_is_expected Assemble held (outcome.Ran transcript) makes = absurd (assembly_never_runs held transcript makes)
-outcome_is_expected Assemble held (outcome.Assembled image) makes = tt
-outcome_is_expected Assemble held (outcome.Listed image) makes = tt
-outcome_is_expected Assemble held (outcome.Traced text) makes = tt
-outcome_is_expected Disassemble held (outcome.Ran transcript) makes = absurd (listing_never_runs held transcript makes)
-outcome_is_expected Disassemble held (outcome.Assembled image) makes = tt
-outcome_is_expected Disassemble held (outcome.Listed image) makes = tt
-outcome_is_expected Disassemble held (outcome.Traced text) makes = tt
-outcome_is_expected (Trace depth) held (outcome.Ran transcript) makes = absurd (trace_never_runs depth held transcript makes)
-outcome_is_expected (Trace depth) held (outcome.Assembled image) makes = tt
-outcome_is_expected (Trace depth) held (outcome.Listed image) makes = tt
-outcome_is_expected (Trace depth) held (outcome.Traced text) makes = tt
-
-pub done_is_expected : (task : Task) (held : List Held) (answer : Status) → IsDone task held answer → IsExpected task answer
-done_is_expected task held answer done = subst (IsExpected task) (sym done.answer_is) (outcome_is_expected task held done.made done.makes)
+pub done_is_expected : DemoLaws → (task : Task) (held : List Held) (answer : Status) → IsDone task held answer → IsExpected task answer
+done_is_expected laws task held answer done = subst (IsExpected task) (sym done.answer_is) (outcome_is_expected laws task held done.made done.makes)

@@ -16,8 +16,9 @@ use Rattle.wb_cli.specs.declared.refusals.Refusal.TheVariants as refusal
 use Rattle.wb_cli.specs.declared.refusals.Stop.{Stop}
 use Rattle.wb_cli.specs.declared.refusals.Stop.TheVariants.{Refused, OutOfMemory}
 use Rattle.wb_cli.specs.Checks.{Held, AnImage, AScript, SomeMoves, HoldsAll, FirstRefused}
+use Rattle.wb_cli.specs.Comparison.{IsComparison, IsDemonstration}
 use Rattle.wb_cli.specs.Files.{Contents, ReadsAll, FirstUnread, CouldNot, TooLong}
-use Rattle.wb_cli.specs.Plan.{Plan, Task, Run, Assemble, Disassemble, Trace, kinds_of}
+use Rattle.wb_cli.specs.Plan.{Plan, Task, Run, Assemble, Disassemble, Trace, Compare, Demo, kinds_of}
 
 -- what a task makes of what the files hold
 abbrev pub Makes : Task → List Held → Outcome → Type 0
@@ -26,6 +27,9 @@ Makes Assemble (AnImage image ∷ []) (outcome.Assembled assembled) = assembled 
 Makes Disassemble (AnImage image ∷ []) (outcome.Listed listed) = listed ≡ image
 Makes (Trace depth) (AnImage a ∷ AnImage b ∷ SomeMoves moves ∷ []) (outcome.Traced text) =
     text ≡ trace_bytes a b depth moves
+Makes (Compare question) (AnImage a ∷ AnImage b ∷ []) (outcome.Compared compared) =
+    IsComparison a b question compared
+Makes (Demo number) [] (outcome.Demonstrated of compared) = (of ≡ number) × IsDemonstration number compared
 Makes _ _ _ = ⊥
 
 -- the contents are of these kinds, and the task made this of them

@@ -1,11 +1,13 @@
 -- What a list of words asks for: the files to read, in the order of the words, and what to do with their contents.
-use Rattle.std.specs.Prelude.{ℕ, Bool, ◌&&◌, List, [], ◌∷◌, length, map, codes, nat_lt, nat_le, if◌then◌else◌}
-use Rattle.std.specs.Char.{is_digit}
+use Rattle.std.specs.Prelude.{ℕ, Bool, List, [], ◌∷◌, length, map, codes, nat_lt, if◌then◌else◌}
 use Rattle.std.specs.List.{list_all}
 use Rattle.std.specs.Str.{bytes_eq}
-use Rattle.std.specs.Str.Parse.{digits_value}
+use Rattle.std.specs.Option.{option_map}
 use Rattle.std.specs.declared.option.Option.{Option}
 use Rattle.std.specs.declared.option.Option.TheVariants.{Some, None}
+use Rattle.wb_compare.specs.declared.questions.Question.{Question}
+use Rattle.wb_options.specs.Numbers.{number_in}
+use Rattle.wb_options.specs.Questions.{question_of}
 use Rattle.wb_cli.specs.declared.files.Kind.{Kind}
 use Rattle.wb_cli.specs.declared.files.Kind.TheVariants as kind
 
@@ -15,12 +17,15 @@ pub record NamedFile : Type 0 where
   pub kind : Kind
 
 -- what is done with the contents of the files: a script is run on an image; a source is assembled; an image is listed; two
--- images are moved by hand, and so many moves can be taken back
+-- images are moved by hand, and so many moves can be taken back; two images are compared; the demo pair of a number is made
+-- and compared
 pub data Task : Type 0 where
   Run : Task
   Assemble : Task
   Disassemble : Task
   Trace : (depth : ℕ) → Task
+  Compare : (question : Question) → Task
+  Demo : (number : ℕ) → Task
 
 -- what a call is to do
 pub record Plan : Type 0 where
@@ -60,23 +65,20 @@ abbrev pub trace_on : List ℕ → List ℕ → List ℕ → ℕ → Plan
 trace_on a b moves depth =
     record { files = image_file a ∷ image_file b ∷ moves_file moves ∷ []; task = Trace depth }
 
+-- to compare two images
+abbrev pub comparison_of : List ℕ → List ℕ → Question → Plan
+comparison_of a b question = record { files = image_file a ∷ image_file b ∷ []; task = Compare question }
+
+-- to make the demo pair of a number and compare it
+abbrev pub demo_of : ℕ → Plan
+demo_of number = record { files = []; task = Demo number }
+
 -- a file word is any text that isn't empty
 abbrev pub is_file_word : List ℕ → Bool
 is_file_word word = nat_lt 0 (length word)
 
 abbrev pub admitted : Plan → Option Plan
 admitted plan = if list_all (λ file. is_file_word file.name) plan.files then Some plan else None
-
--- a number is one to twenty decimal digits, of which the first may be 0
-abbrev pub is_number : List ℕ → Bool
-is_number word =
-    nat_lt 0 (length word) && nat_le (length word) 20 && list_all (λ digit. is_digit digit 10) word
-
--- the number of a word, where it is in this range
-abbrev pub number_in : ℕ → ℕ → List ℕ → Option ℕ
-number_in least most word =
-    if is_number word && nat_le least (digits_value 10 word) && nat_le (digits_value 10 word) most
-    then Some (digits_value 10 word) else None
 
 -- `run` wants an image and a script
 abbrev pub run_of : List (List ℕ) → Option Plan
@@ -103,6 +105,21 @@ abbrev pub trace_of : List (List ℕ) → Option Plan
 trace_of (a ∷ b ∷ moves ∷ depth ∷ []) = trace_to a b moves (number_in 1 256 depth)
 trace_of _ = None
 
+-- a comparison by some question, if there is one
+abbrev pub compare_by : List ℕ → List ℕ → Option Question → Option Plan
+compare_by a b None = None
+compare_by a b (Some question) = admitted (comparison_of a b question)
+
+-- `compare` wants two images, how many transfers, a pace, and options
+abbrev pub compare_of : List (List ℕ) → Option Plan
+compare_of (a ∷ b ∷ n ∷ k ∷ options) = compare_by a b (question_of n k options)
+compare_of _ = None
+
+-- `demo` wants a number of 64 bits
+abbrev pub demo_by : List (List ℕ) → Option Plan
+demo_by (number ∷ []) = option_map demo_of (number_in 0 18446744073709551615 number)
+demo_by _ = None
+
 -- the plan of the words after the program's name, or none
 abbrev pub plan_of : List (List ℕ) → Option Plan
 plan_of [] = None
@@ -111,4 +128,6 @@ plan_of (name ∷ words) =
     else if bytes_eq name (codes "asm") then asm_of words
     else if bytes_eq name (codes "dis") then dis_of words
     else if bytes_eq name (codes "trace") then trace_of words
+    else if bytes_eq name (codes "compare") then compare_of words
+    else if bytes_eq name (codes "demo") then demo_by words
     else None

@@ -10,6 +10,10 @@ use Rattle.wb_asm.specs.declared.faults.AsmKind.TheVariants as kind
 use Rattle.wb_dis.specs.Listing.{listing}
 use Rattle.wb_rom.specs.ImageBytes.{IsImageOf}
 use Rattle.wb_session.specs.Texts.{transcript_bytes}
+use Rattle.wb_compare.specs.declared.verdicts.Verdict.{Verdict}
+use Rattle.wb_compare.specs.declared.verdicts.Verdict.TheVariants as verdict
+use Rattle.wb_report.specs.Verdicts.{Begins, IsVerdictText}
+use Rattle.wb_cli.specs.declared.comparing.Compared.{Compared}
 use Rattle.wb_cli.specs.declared.outcomes.Outcome.{Outcome}
 use Rattle.wb_cli.specs.declared.outcomes.Outcome.TheVariants as outcome
 use Rattle.wb_cli.specs.declared.refusals.Refusal.{Refusal}
@@ -23,12 +27,32 @@ transcript_ending Done = ending.Fine
 transcript_ending (Early _) = ending.Shown
 transcript_ending (Silent _) = ending.Shown
 
+-- equal images are fine; a difference is shown
+abbrev pub verdict_ending : Verdict → Ending
+verdict_ending (verdict.Equal pace) = ending.Fine
+verdict_ending (verdict.Different d) = ending.Shown
+verdict_ending (verdict.Breach side d at) = ending.Breach
+verdict_ending (verdict.Unknown spent) = ending.Unknown spent
+
 -- how a call ends that came to an outcome
 abbrev pub outcome_ending : Outcome → Ending
 outcome_ending (outcome.Ran transcript) = transcript_ending transcript.ended
 outcome_ending (outcome.Assembled image) = ending.Fine
 outcome_ending (outcome.Listed image) = ending.Fine
 outcome_ending (outcome.Traced text) = ending.Fine
+outcome_ending (outcome.Compared compared) = verdict_ending compared.verdict
+outcome_ending (outcome.Demonstrated number compared) = verdict_ending compared.verdict
+
+-- the text is that of the verdict
+abbrev pub IsTextOf : Compared → List ℕ → Type 0
+IsTextOf compared text = IsVerdictText compared.first compared.second compared.comparison.question compared.verdict text
+
+abbrev pub demo_line : ℕ → List ℕ
+demo_line number = codes "DEMO " ++ decimal number
+
+-- how many words the programs of every demo pair have
+abbrev pub words_line : List ℕ
+words_line = codes "WORDS 70 102"
 
 -- the text is the report of an outcome
 abbrev pub IsReport : Outcome → List ℕ → Type 0
@@ -36,6 +60,9 @@ IsReport (outcome.Ran transcript) text = text ≡ transcript_bytes transcript
 IsReport (outcome.Assembled image) text = IsImageOf text image
 IsReport (outcome.Listed image) text = text ≡ listing image
 IsReport (outcome.Traced traced) text = text ≡ traced
+IsReport (outcome.Compared compared) text = IsTextOf compared text
+IsReport (outcome.Demonstrated number compared) text =
+    Begins (demo_line number) (Begins words_line (IsTextOf compared)) text
 
 -- how a call ends that was refused
 abbrev pub refusal_ending : Refusal → Ending

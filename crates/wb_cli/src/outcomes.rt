@@ -1,7 +1,9 @@
 //! What the work of a call gives, and its report.
-ghost use Rattle.std.specs.Prelude.{◌≡◌, IfOk};
-ghost use Rattle.wb_cli.specs.Report.{IsReply, transcript_ending};
+ghost use Rattle.std.specs.Prelude.{◌≡◌, ◌≤◌, IfOk};
+ghost use Rattle.wb_report.specs.Verdicts.{Begins};
+ghost use Rattle.wb_cli.specs.Report.{IsReply, IsTextOf, demo_line, transcript_ending, words_line};
 
+use crate::comparing::Compared;
 use crate::replies::Reply;
 use crate::statuses::Ending;
 use crate::texts::Text;
@@ -22,6 +24,10 @@ pub enum Outcome {
     Listed(Image),
     /// The moves were made.
     Traced(Text),
+    /// The images were compared.
+    Compared(Compared),
+    /// The demo pair of this number was compared.
+    Demonstrated(u64, Compared),
 }
 
 impl Outcome {
@@ -53,6 +59,16 @@ impl Outcome {
                 ending: Ending::Fine,
                 text: text.into_vec(),
             }),
+            Outcome::Compared(compared) => {
+                let text = compared.text(alloc)?;
+                let ending = compared.into_ending();
+                Ok(Reply { ending, text })
+            }
+            Outcome::Demonstrated(number, compared) => {
+                let text = demo_text(alloc, number, &compared)?;
+                let ending = compared.into_ending();
+                Ok(Reply { ending, text })
+            }
         }
     }
 }
@@ -65,4 +81,16 @@ fn run_ending(ended: Ended) -> Ending
         Ended::Done => Ending::Fine,
         Ended::Early(_) | Ended::Silent(_) => Ending::Shown,
     }
+}
+
+/// The line of a demo, the line of its programs, and the text of its verdict.
+fn demo_text(alloc: Global, number: u64, compared: &Compared) -> Result<Vec<u8>, OutOfMemory>
+    ensures { IfOk result (λ text. Begins (demo_line number) (Begins words_line (IsTextOf compared.now)) text.items) }
+{
+    let head = format!(in alloc; "DEMO {number}\n")?;
+    let mut text = head.into_bytes();
+    text.extend_from_slice(b"WORDS 70 102\n")?;
+    let verdict = compared.text(alloc)?;
+    text.extend_from_slice(&verdict)?;
+    Ok(text)
 }

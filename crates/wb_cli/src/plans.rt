@@ -1,14 +1,14 @@
 //! The words of a command line, and the plan that they make.
 ghost use Rattle.std.specs.Prelude.{◌≡◌, ◌≤◌, ◌∷◌, IfSome, map, string_bytes};
 ghost use Rattle.std.specs.Option.{option_map};
-ghost use Rattle.wb_cli.specs.Plan.{plan_of, is_file_word, run_of, asm_of, dis_of, trace_of, trace_to};
+ghost use Rattle.wb_cli.specs.Plan.{plan_of, is_file_word, run_of, asm_of, dis_of, trace_of, trace_to, compare_of, compare_by, demo_by};
 ghost use Rattle.wb_cli.specs.Planned.{plan_in};
 
 use crate::depths::Depth;
-use crate::numbers::number_in;
+use wb_options::{Comparison, number_in, question_in};
 
 /// What the words after the program's name ask for. File words are in their order.
-#[derive(Clone, Copy)]
+#[derive(Drop)]
 pub enum Plan<'a> {
     /// Runs a script on an image.
     Run(&'a str, &'a str),
@@ -18,6 +18,10 @@ pub enum Plan<'a> {
     Disassemble(&'a str),
     /// Makes moves on two images, of which so many can be taken back.
     Trace(&'a str, &'a str, &'a str, Depth),
+    /// Compares two images.
+    Compare(&'a str, &'a str, Comparison),
+    /// Makes the demo pair of a number, and compares it.
+    Demo(u64),
 }
 
 /// The plan of the words, or `None` where they are no command line of this program. This takes no memory.
@@ -42,6 +46,10 @@ fn command_plan<'a>(name: &str, words: &'a [String]) -> Option<Plan<'a>>
         dis_plan(words)
     } else if name == "trace" {
         trace_plan(words)
+    } else if name == "compare" {
+        compare_plan(words)
+    } else if name == "demo" {
+        demo_plan(words)
     } else {
         None
     }
@@ -113,6 +121,47 @@ fn trace_to<'a>(
             };
             Some(Plan::Trace(first, second, moves, depth))
         }
+        _ => None,
+    }
+}
+
+fn compare_plan(words: &[String]) -> Option<Plan<'_>>
+    ensures { option_map plan_in result ≡ compare_of (map string_bytes words.now) }
+{
+    match words {
+        [first, second, n, k, options @ ..] => compare_by(
+            first.as_str(),
+            second.as_str(),
+            question_in(n.as_str(), k.as_str(), options),
+        ),
+        _ => None,
+    }
+}
+
+/// A comparison by this question, if there is one.
+fn compare_by<'a>(
+    first: &'a str,
+    second: &'a str,
+    comparison: Option<Comparison>,
+) -> Option<Plan<'a>>
+    ensures { option_map plan_in result ≡ compare_by first.now second.now (option_map (λ c. c.question) comparison) }
+{
+    match comparison {
+        Some(comparison) if is_file_word(first) && is_file_word(second) => {
+            Some(Plan::Compare(first, second, comparison))
+        }
+        _ => None,
+    }
+}
+
+fn demo_plan(words: &[String]) -> Option<Plan<'_>>
+    ensures { option_map plan_in result ≡ demo_by (map string_bytes words.now) }
+{
+    match words {
+        [number] => match number_in(number.as_str(), 0, u64::MAX) {
+            Some(number) => Some(Plan::Demo(number)),
+            None => None,
+        },
         _ => None,
     }
 }

@@ -158,6 +158,46 @@ fn check_lengths(
     Ok(())
 }
 
+/// Comparisons and a demo: equal images, a slower copy, an overrun, a spent budget.
+const COMPARISONS: [Line; 6] = [
+    (
+        &["compare", "echo", "echo", "0", "2"],
+        0,
+        b"EQUAL 0 2\nPACE KEPT\n",
+    ),
+    (
+        &["compare", "echo", "slow", "2", "4"],
+        0,
+        b"EQUAL 2 4\nPACE KEPT\n",
+    ),
+    (
+        &["compare", "echo", "echo", "1", "2", "shape=R"],
+        0,
+        b"EQUAL 1 2\nOVERRUN A\nR 00\nHOLD\n",
+    ),
+    (
+        &["compare", "echo", "wide", "0", "2"],
+        1,
+        b"DIFFERENT 0 2\nS 84 80\n",
+    ),
+    (
+        &["compare", "echo", "echo", "0", "2", "points=5"],
+        5,
+        b"UNKNOWN POINTS 5\n",
+    ),
+    (
+        &["demo", "7"],
+        0,
+        b"DEMO 7\nWORDS 70 102\nEQUAL 4 101\nPACE KEPT\n",
+    ),
+];
+
+#[test]
+fn comparisons(rt: HostRuntime) -> Result<(), Fail> {
+    let alloc = rt.alloc();
+    check_lines(&rt, alloc, &COMPARISONS)
+}
+
 /// Calls of `run`: the image, the script, the status and the report.
 const RUNS: [Run; 9] = [
     ("echo", GREETING, 0, GREETED),
@@ -271,7 +311,7 @@ fn listing(rt: HostRuntime) -> Result<(), Fail> {
 }
 
 /// Words without a plan.
-const BAD_WORDS: [&[&str]; 22] = [
+const BAD_WORDS: [&[&str]; 27] = [
     &[],
     &["run", "a"],
     &["compare", "a", "b", "17", "4"],
@@ -279,6 +319,11 @@ const BAD_WORDS: [&[&str]; 22] = [
     &["compare", "a", "b", "2", "4", "shape=R"],
     &["compare", "a", "b", "2", "4", "points=9", "points=9"],
     &["compare", "a", "b", "2", "4", "speed=1"],
+    &["compare", "echo", "", "2", "4"],
+    &["compare", "echo", "slow", "2"],
+    &["demo"],
+    &["demo", "18446744073709551616"],
+    &["demo", "7", "power=any"],
     &["run", "echo", ""],
     &["run", "", "text"],
     &["run", "echo", "text", "text"],
@@ -304,7 +349,7 @@ fn bad_words(rt: HostRuntime) -> Result<(), Fail> {
 }
 
 /// Words, the status and the report.
-const BAD_FILES: [Line; 10] = [
+const BAD_FILES: [Line; 12] = [
     (&["run", "shorter", "text"], 3, b"IMAGE 1 LENGTH 8191\n"),
     (&["run", "longer", "text"], 3, b"IMAGE 1 LENGTH 8193\n"),
     (&["run", "empty", "text"], 3, b"IMAGE 1 LENGTH 0\n"),
@@ -312,6 +357,16 @@ const BAD_FILES: [Line; 10] = [
     (&["run", "missing", "missing"], 6, b"READ FAULT 1\n"),
     (&["run", "empty", "missing"], 6, b"READ FAULT 2\n"),
     (&["dis", "longer"], 3, b"IMAGE 1 LENGTH 8193\n"),
+    (
+        &["compare", "echo", "shorter", "2", "4"],
+        3,
+        b"IMAGE 2 LENGTH 8191\n",
+    ),
+    (
+        &["compare", "missing", "longer", "2", "4", "power=any"],
+        6,
+        b"READ FAULT 1\n",
+    ),
     (
         &["trace", "echo", "shorter", "text", "1"],
         3,

@@ -1,10 +1,11 @@
 //! What a call comes to: the first step that stops it, or what the work gave.
 ghost use Rattle.std.specs.Prelude.{◌≡◌, ◌≤◌, ℕ, List, [], ◌∷◌, IfOk, length, map, string_bytes};
 ghost use Rattle.wb_cli.specs.Outcome.{ComesTo, GoesTo, WorksTo};
-ghost use Rattle.wb_cli.specs.Plan.{Run, Assemble, Disassemble, Trace, plan_of, run_on, assembly_of, listing_of, trace_on};
+ghost use Rattle.wb_cli.specs.Plan.{Run, Assemble, Disassemble, Trace, Compare, Demo, plan_of, run_on, assembly_of, listing_of, trace_on, comparison_of, demo_of};
 ghost use Rattle.wb_cli.specs.Planned.{plan_in};
 
 use crate::checks::{checked_image, checked_moves, checked_script, checked_source};
+use crate::comparing::{compare_images, demonstrate};
 use crate::depths::Depth;
 use crate::files::{FileWord, Kind, read_one, read_three, read_two};
 use crate::outcomes::Outcome;
@@ -13,6 +14,7 @@ use crate::refusals::{Refusal, Stop};
 use crate::texts::Text;
 use std::alloc::Global;
 use wb_base::Shelf;
+use wb_options::Comparison;
 use wb_session::run_script;
 use wb_trace::trace_text;
 use wb_word::OutOfMemory;
@@ -31,7 +33,7 @@ pub fn carried_out<S: Shelf>(
 {
     match planned(words) {
         None => Ok(Err(Refusal::BadWords)),
-        Some(plan) => match work(alloc, shelf, &plan) {
+        Some(plan) => match work(alloc, shelf, plan) {
             Ok(outcome) => Ok(Ok(outcome)),
             Err(Stop::Refused(refusal)) => Ok(Err(refusal)),
             Err(Stop::OutOfMemory) => Err(OutOfMemory),
@@ -40,18 +42,22 @@ pub fn carried_out<S: Shelf>(
 }
 
 /// Does what a plan asks for.
-fn work<S: Shelf>(alloc: Global, shelf: &mut S, plan: &Plan<'_>) -> Result<Outcome, Stop>
+fn work<S: Shelf>(alloc: Global, shelf: &mut S, plan: Plan<'_>) -> Result<Outcome, Stop>
     ensures kept { (n : List ℕ) → S.content shelf.new n ≡ S.content shelf.old n }
     ensures later { S.faults shelf.old ≤ S.faults shelf.new }
-    ensures goes_to { GoesTo (S.content shelf.old) (S.faults shelf.old) (S.faults shelf.new) (plan_in plan.now) result }
+    ensures goes_to { GoesTo (S.content shelf.old) (S.faults shelf.old) (S.faults shelf.new) (plan_in plan.entry) result }
 {
     match plan {
         Plan::Run(image, script) => run(alloc, shelf, image, script),
         Plan::Assemble(source) => build(alloc, shelf, source),
         Plan::Disassemble(image) => list(alloc, shelf, image),
         Plan::Trace(first, second, moves, depth) => {
-            trace(alloc, shelf, first, second, moves, *depth)
+            trace(alloc, shelf, first, second, moves, depth)
         }
+        Plan::Compare(first, second, comparison) => {
+            compare(alloc, shelf, first, second, comparison)
+        }
+        Plan::Demo(number) => demo(alloc, shelf, number),
     }
 }
 
@@ -177,4 +183,55 @@ fn trace_contents(
     let moves = checked_moves(alloc, 2, moves_text)?;
     let text = trace_text(alloc, &first, &second, &moves, depth.value)?;
     Ok(Outcome::Traced(Text::from_vec(text)))
+}
+
+/// Compares the images in two files.
+fn compare<S: Shelf>(
+    alloc: Global,
+    shelf: &mut S,
+    first: &str,
+    second: &str,
+    comparison: Comparison,
+) -> Result<Outcome, Stop>
+    ensures kept { (n : List ℕ) → S.content shelf.new n ≡ S.content shelf.old n }
+    ensures later { S.faults shelf.old ≤ S.faults shelf.new }
+    ensures goes_to { GoesTo (S.content shelf.old) (S.faults shelf.old) (S.faults shelf.new)
+        (comparison_of first.now second.now comparison.question) result }
+{
+    let first = FileWord {
+        name: first,
+        kind: Kind::Image,
+    };
+    let second = FileWord {
+        name: second,
+        kind: Kind::Image,
+    };
+    let (first_bytes, second_bytes) = read_two(alloc, shelf, &first, &second)?;
+    compare_contents(alloc, &first_bytes, &second_bytes, comparison)
+}
+
+/// Compares the images in these bytes.
+fn compare_contents(
+    alloc: Global,
+    first_bytes: &[u8],
+    second_bytes: &[u8],
+    comparison: Comparison,
+) -> Result<Outcome, Stop>
+    ensures { WorksTo (Compare comparison.question) (Kind.Image ∷ Kind.Image ∷ [])
+        (first_bytes.now ∷ second_bytes.now ∷ []) result }
+{
+    let first = checked_image(alloc, 0, first_bytes)?;
+    let second = checked_image(alloc, 1, second_bytes)?;
+    let compared = compare_images(alloc, first, second, comparison)?;
+    Ok(Outcome::Compared(compared))
+}
+
+/// Makes the demo pair of a number, and compares it. No file is read.
+fn demo<S: Shelf>(alloc: Global, shelf: &mut S, number: u64) -> Result<Outcome, Stop>
+    ensures kept { (n : List ℕ) → S.content shelf.new n ≡ S.content shelf.old n }
+    ensures later { S.faults shelf.old ≤ S.faults shelf.new }
+    ensures goes_to { GoesTo (S.content shelf.old) (S.faults shelf.old) (S.faults shelf.new) (demo_of number) result }
+{
+    let compared = demonstrate(alloc, number)?;
+    Ok(Outcome::Demonstrated(number, compared))
 }

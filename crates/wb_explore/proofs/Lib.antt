@@ -1,3 +1,4 @@
+pub mod Told
 pub mod Ways
 pub mod Covering
 pub mod Ending
@@ -10,3 +11,18 @@ pub mod Refusals
 pub mod Onward
 pub mod Following
 pub mod Wondering
+pub mod Chosen
+pub mod Giving
+pub mod Counting
+pub mod Layering
+pub mod Serving
+pub mod Room
+pub mod Starting
+pub mod Ended
+pub mod Causes
+pub mod Up
+pub mod Confirmed
+pub mod Visited
+pub mod Passing
+pub mod Turning
+pub mod Standing

@@ -80,6 +80,7 @@ module _ (image : Image) (p : Plan) where
     pending = a;
     carries = λ i b c come t. by_entry i b c come t (Contains-push_cases es e t.entry t.listed);
     ahead = h;
+    behind = λ y b. b;
     count = omega arith;
     longer = omega arith;
   }
@@ -93,6 +94,7 @@ module _ (image : Image) (p : Plan) where
     pending = put.pending;
     carries = put.carries;
     ahead = put.ahead bound k less;
+    behind = put.behind bound less;
     count = put.count;
     longer = put.longer;
   }
@@ -130,6 +132,7 @@ module _ (image : Image) (p : Plan) where
     pending = x.pending;
     carries = x.carries;
     ahead = x.ahead;
+    behind = x.behind;
     count = x.count;
     longer = let l = x.longer in omega arith;
   }
@@ -140,6 +143,7 @@ module _ (image : Image) (p : Plan) where
     pending = y.pending;
     carries = λ i d c come t. y.carries i d c come (by_entry i d c come t (Contains-append_cases es (a ∷ b ∷ []) t.entry t.listed));
     ahead = y.ahead;
+    behind = λ n c. y.behind n (x.behind n c);
     count = let l = x.count in let m = y.count in omega arith;
     longer = let l = x.longer in let m = y.longer in omega arith;
   }
@@ -219,6 +223,7 @@ module _ (laws : HeldLaws) (talks : (image : Image) (p : Plan) → AreTalks (run
   gone_on f h grown y before after es fs ns a are put = record {
     pending = put.pending;
     ahead = put.ahead;
+    behind = put.behind;
     carries = λ i b c come t. let u = carries_grown keeps image p f g grown (runs_of image p) es a.each i b c come t in put.carries i b c come (record { entry = u.entry; listed = Contains-append_left es ns u.entry u.listed; is_at = u.is_at });
     arrives = λ i b d come t. arrives i b d come (at_grown keeps image p f g grown (runs_of image p) i e d y t);
     count = put.count;

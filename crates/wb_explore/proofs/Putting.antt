@@ -6,7 +6,7 @@ use Rattle.std.proofs.lemmas.List.{length_push}
 use Rattle.std.proofs.lemmas.List.Elements.{Contains-append_left, Contains-append_right, Contains-push_cases}
 use Rattle.std.proofs.lemmas.List.Sums.{sum_by_push}
 use Rattle.wb_rom.specs.declared.images.Image.{Image}
-use Rattle.wb_term.specs.Inputs.{Assignment}
+use Rattle.wb_term.specs.Inputs.{Assignment, IsAssignment}
 use Rattle.wb_term.specs.Terms.{Terms}
 use Rattle.wb_term.specs.Growth.{Grown}
 use Rattle.wb_port.specs.declared.points.Point.{Point}
@@ -24,14 +24,14 @@ use Rattle.wb_explore.specs.Entries.{IsAt, IsSound, IsAtSome, Carries, Joins, Ta
 use Rattle.wb_explore.specs.Plans.{runs_of, IsPlanned}
 use Rattle.wb_explore.specs.Purses.{points_of}
 use Rattle.wb_explore.specs.Layers.{AddsPassed, IsPassedBy}
-use Rattle.wb_explore.specs.Pending.{entry_key, entry_view, IsEntry, IsFound, ArePending, IsPlaced, AreAhead, IsPut, with_noted, either, newly}
+use Rattle.wb_explore.specs.Pending.{entry_key, entry_view, IsEntry, IsFound, ArePending, IsPlaced, AreAhead, AreAllFound, IsPut, with_noted, either, newly, StaysBehind}
 use Rattle.wb_explore.proofs.Ending.{comes_passes}
 use Rattle.wb_explore.proofs.Covering.{joined_at_one, joined_at_other, joined_sound}
 use Rattle.wb_explore.proofs.Growing.{entry_grown, at_grown, sound_grown}
 use Rattle.wb_explore.proofs.Lists.{listed_head, listed_none, from_all, listed_point, point_listed, taken_itself, taken_back, taken_cases, taken_sum, taken_length, apart_taken, apart_push}
 
 -- the last of a list
-last_listed : {X : Type 0} (xs : List X) (x : X) → Contains (xs ++ x ∷ []) x
+pub last_listed : {X : Type 0} (xs : List X) (x : X) → Contains (xs ++ x ∷ []) x
 last_listed xs x = Contains-append_right xs (x ∷ []) x (listed_head x x [] refl)
 
 abbrev pub one_if : Option Assignment → ℕ
@@ -47,8 +47,8 @@ module _ (laws : HeldLaws) (kinds_law : DialoguesAreOfTheirKinds) (keeps : Growt
     talk = λ i a. (kinds_law p.kinds i p.power).talk a;
   }
 
-  pub planned : (w : Assignment) → IsPlanned p (dialogue_under p.kinds w p.power)
-  planned w = let k = kinds_law p.kinds w p.power in record { kinds = k.kinds; transfers = k.transfers; start = k.start }
+  pub planned : (w : Assignment) → IsAssignment w → IsPlanned p (dialogue_under p.kinds w p.power)
+  planned w a = let k = kinds_law p.kinds w p.power in record { kinds = k.kinds; transfers = k.transfers; start = k.start; talk = k.talk a }
 
   -- an entry's witness is inputs whose held run passes its point
   pub witness_passes : (g : Terms) (e : Entry) (w : Assignment) → IsEntry g image p e → IsSound (entry_view g) (runs_of image p) e → e.witness ≡ Some w → Passes image p.side p.pace (dialogue_under p.kinds w p.power) e.key
@@ -68,7 +68,7 @@ module _ (laws : HeldLaws) (kinds_law : DialoguesAreOfTheirKinds) (keeps : Growt
 
       passed : (r : ReachedPoint) → Contains [] r ⊎ (this ≡ r) → IsPassedBy image p r
       passed r (inl c) = absurd (listed_none r c)
-      passed r (inr q) = subst (IsPassedBy image p) q (record { planned = planned w; passes = witness_passes g e w x s (n w refl) })
+      passed r (inr q) = subst (IsPassedBy image p) q (record { planned = planned w (x.witness w (n w refl)).assignment; passes = witness_passes g e w x s (n w refl) })
 
   -- points that were noted stay
   pub noted_keeps : (key : Point) (o : Option Assignment) (before : List ReachedPoint) (x : Point) → Contains (points_of before) x → Contains (points_of (with_noted p key o before)) x
@@ -115,6 +115,16 @@ module _ (laws : HeldLaws) (kinds_law : DialoguesAreOfTheirKinds) (keeps : Growt
             subst (λ (n : Entry). Contains (points_of (with_noted p e.key e.witness before)) n.key) r
             (noted_new e.key e.witness before (ap (λ (n : Entry). is_some n.witness) r ∙ q))
 
+    alone_behind : (bound : ℕ) → bound < e.rank → StaysBehind image p es (es ++ e ∷ []) bound
+    alone_behind bound less y (low, none) = (low, λ f c. other f (Contains-push_cases es e f c))
+      where
+        higher : e.key ≢ y
+        higher q = let l = ap (rank_at image p.pace) q in let r = x.rank in absurd (omega arith)
+
+        other : (f : Entry) → Contains es f ⊎ (e ≡ f) → f.key ≢ y
+        other f (inl c) = none f c
+        other f (inr q) = λ k. higher (ap (λ (n : Entry). n.key) q ∙ k)
+
     alone_ahead : (bound : ℕ) → AreAhead image p before es bound → bound < e.rank → AreAhead image p (with_noted p e.key e.witness before) (es ++ e ∷ []) bound
     alone_ahead bound h less = record {
       placed = λ r c side kinds. placed r side kinds (noted_cases e.key e.witness before r c);
@@ -125,26 +135,29 @@ module _ (laws : HeldLaws) (kinds_law : DialoguesAreOfTheirKinds) (keeps : Growt
         ahead f (inl c) = h.ahead f c
         ahead f (inr q) = let l = ap (λ (n : Entry). n.rank) q in omega arith
 
-        higher : (y : Point) → rank_at image p.pace y ≤ bound → e.key ≢ y
-        higher y low q = let l = ap (rank_at image p.pace) q in let r = x.rank in absurd (omega arith)
-
         keep : (y : Point) → IsPlaced image p es bound y → IsPlaced image p (es ++ e ∷ []) bound y
         keep y (inl f) = inl (record { entry = f.entry; listed = Contains-append_left es (e ∷ []) f.entry f.listed; same = f.same; found = f.found })
-        keep y (inr (low, none)) = inr (low, λ f c. other f (Contains-push_cases es e f c))
-          where
-            other : (f : Entry) → Contains es f ⊎ (e ≡ f) → f.key ≢ y
-            other f (inl c) = none f c
-            other f (inr q) = λ k. higher y low (ap (λ (n : Entry). n.key) q ∙ k)
+        keep y (inr b) = inr (alone_behind bound less y b)
 
         placed : (r : ReachedPoint) → r.point.side ≡ p.side → r.point.kinds ≡ p.kinds → Contains before r ⊎ ((r.point ≡ e.key) × (is_some e.witness ≡ true)) → IsPlaced image p (es ++ e ∷ []) bound r.point
         placed r side kinds (inl c) = keep r.point (h.placed r c side kinds)
         placed r side kinds (inr (q, found)) = inl (record { entry = e; listed = last_listed es e; same = sym q; found = found })
+
+    alone_found : AreAllFound p before es → AreAllFound p (with_noted p e.key e.witness before) (es ++ e ∷ [])
+    alone_found h r c side kinds = by_case (noted_cases e.key e.witness before r c)
+      where
+        by_case : Contains before r ⊎ ((r.point ≡ e.key) × (is_some e.witness ≡ true)) → IsFound (es ++ e ∷ []) r.point
+        by_case (inl d) = let f = h r d side kinds in record { entry = f.entry; listed = Contains-append_left es (e ∷ []) f.entry f.listed; same = f.same; found = f.found }
+        by_case (inr (q, found)) = record { entry = e; listed = last_listed es e; same = sym q; found = found }
 
     pub put_alone : All (λ (f : Entry). f.key ≢ e.key) es → IsPut image p g g before (with_noted p e.key e.witness before) es e (es ++ e ∷ [])
     put_alone none = record {
       pending = alone_pending none;
       carries = λ i b c come t. t;
       ahead = alone_ahead;
+      found = alone_found;
+      noted = λ q. noted_new e.key e.witness before q;
+      behind = alone_behind;
       adds = noted_passes g e e.witness before x s (λ w q. q);
       count =
           let n = noted_length e.key e.witness before in
@@ -163,6 +176,10 @@ module _ (laws : HeldLaws) (kinds_law : DialoguesAreOfTheirKinds) (keeps : Growt
   found_either : (o n : Option Assignment) → is_some n ≡ true → is_some (either o n) ≡ true
   found_either (Some w) n q = refl
   found_either None n q = q
+
+  first_either : (o n : Option Assignment) → is_some o ≡ true → is_some (either o n) ≡ true
+  first_either (Some w) n q = refl
+  first_either None n q = absurd (both_ways false refl q)
 
   newly_either : (o n : Option Assignment) → is_some (newly o n) ≡ true → is_some (either o n) ≡ true
   newly_either (Some w) None q = refl
@@ -195,6 +212,29 @@ module _ (laws : HeldLaws) (kinds_law : DialoguesAreOfTheirKinds) (keeps : Growt
     joined_key : joined.key ≡ e.key
     joined_key = joins.key
 
+    by_found : (is_some other.witness ≡ true) ⊎ (is_some (newly e.witness other.witness) ≡ true) → Contains (points_of (with_noted p e.key (newly e.witness other.witness) before)) e.key
+    by_found (inl q) = noted_keeps e.key (newly e.witness other.witness) before e.key (subst (Contains (points_of before)) same (a.known other here q))
+    by_found (inr q) = noted_new e.key (newly e.witness other.witness) before q
+
+    met_noted : is_some e.witness ≡ true → Contains (points_of (with_noted p e.key (newly e.witness other.witness) before)) e.key
+    met_noted q = by_found (either_found e.witness other.witness (first_either e.witness other.witness q))
+
+    met_found : AreAllFound p before es → AreAllFound p (with_noted p e.key (newly e.witness other.witness) before) (rest ++ joined ∷ [])
+    met_found k r c side kinds = by_case (noted_cases e.key (newly e.witness other.witness) before r c)
+      where
+        this : r.point ≡ e.key → is_some (either e.witness other.witness) ≡ true → IsFound (rest ++ joined ∷ []) r.point
+        this q found = record { entry = joined; listed = last_listed rest joined; same = joined_key ∙ sym q; found = ap is_some w ∙ found }
+
+        by_taken : (f : IsFound es r.point) → (f.entry ≡ other) ⊎ Contains rest f.entry → IsFound (rest ++ joined ∷ []) r.point
+        by_taken f (inl q) =
+            this (sym f.same ∙ (ap (λ (n : Entry). n.key) q ∙ same))
+            (found_either e.witness other.witness (ap (λ (n : Entry). is_some n.witness) (sym q) ∙ f.found))
+        by_taken f (inr d) = record { entry = f.entry; listed = Contains-append_left rest (joined ∷ []) f.entry d; same = f.same; found = f.found }
+
+        by_case : Contains before r ⊎ ((r.point ≡ e.key) × (is_some (newly e.witness other.witness) ≡ true)) → IsFound (rest ++ joined ∷ []) r.point
+        by_case (inl d) = let f = k r d side kinds in by_taken f (taken_cases es rest other f.entry taken f.listed)
+        by_case (inr (q, new)) = this q (newly_either e.witness other.witness new)
+
     met_pending : ArePending h image p after (rest ++ joined ∷ [])
     unfolding after
     met_pending = record {
@@ -215,10 +255,6 @@ module _ (laws : HeldLaws) (kinds_law : DialoguesAreOfTheirKinds) (keeps : Growt
             let d = taken_back es rest other f taken c in
             sound_grown keeps image p g h grown (runs_of image p) f (a.each f d) (a.sound f d)
         sound f (inr q) = subst (IsSound (entry_view h) (runs_of image p)) q met_sound
-
-        by_found : (is_some other.witness ≡ true) ⊎ (is_some (newly e.witness other.witness) ≡ true) → Contains (points_of (with_noted p e.key (newly e.witness other.witness) before)) e.key
-        by_found (inl q) = noted_keeps e.key (newly e.witness other.witness) before e.key (subst (Contains (points_of before)) same (a.known other here q))
-        by_found (inr q) = noted_new e.key (newly e.witness other.witness) before q
 
         known : (f : Entry) → Contains rest f ⊎ (joined ≡ f) → is_some f.witness ≡ true → Contains (points_of (with_noted p e.key (newly e.witness other.witness) before)) f.key
         known f (inl c) q = noted_keeps e.key (newly e.witness other.witness) before f.key (a.known f (taken_back es rest other f taken c) q)
@@ -251,6 +287,13 @@ module _ (laws : HeldLaws) (kinds_law : DialoguesAreOfTheirKinds) (keeps : Growt
         by_entry (inl d) = by_taken (taken_cases es rest other t.entry taken d)
         by_entry (inr q) = this (joined_at_one laws (runs_of image p) (entry_view h) e other joined joins i b c (one (subst (λ (n : Entry). IsAt (entry_view g) (runs_of image p) i n c) (sym q) t.is_at)))
 
+    met_behind : (bound : ℕ) → StaysBehind image p es (rest ++ joined ∷ []) bound
+    met_behind bound z (low, none) = (low, λ f c. apart f (Contains-push_cases rest joined f c))
+      where
+        apart : (f : Entry) → Contains rest f ⊎ (joined ≡ f) → f.key ≢ z
+        apart f (inl c) = none f (taken_back es rest other f taken c)
+        apart f (inr q) = λ r. none other here (same ∙ (sym joined_key ∙ (ap (λ (n : Entry). n.key) q ∙ r)))
+
     met_ahead : (bound : ℕ) → AreAhead image p before es bound → bound < e.rank → AreAhead image p after (rest ++ joined ∷ []) bound
     unfolding after
     met_ahead bound k less = record {
@@ -281,11 +324,7 @@ module _ (laws : HeldLaws) (kinds_law : DialoguesAreOfTheirKinds) (keeps : Growt
 
         keep : (z : Point) → IsPlaced image p es bound z → IsPlaced image p (rest ++ joined ∷ []) bound z
         keep z (inl f) = found z f (taken_cases es rest other f.entry taken f.listed)
-        keep z (inr (low, none)) = inr (low, λ f c. apart f (Contains-push_cases rest joined f c))
-          where
-            apart : (f : Entry) → Contains rest f ⊎ (joined ≡ f) → f.key ≢ z
-            apart f (inl c) = none f (taken_back es rest other f taken c)
-            apart f (inr q) = λ r. none other here (same ∙ (sym joined_key ∙ (ap (λ (n : Entry). n.key) q ∙ r)))
+        keep z (inr b) = inr (met_behind bound z b)
 
         placed : (r : ReachedPoint) → r.point.side ≡ p.side → r.point.kinds ≡ p.kinds → Contains before r ⊎ ((r.point ≡ e.key) × (is_some (newly e.witness other.witness) ≡ true)) → IsPlaced image p (rest ++ joined ∷ []) bound r.point
         placed r side kinds (inl c) = keep r.point (k.placed r c side kinds)
@@ -297,6 +336,9 @@ module _ (laws : HeldLaws) (kinds_law : DialoguesAreOfTheirKinds) (keeps : Growt
       pending = met_pending;
       carries = met_carries;
       ahead = met_ahead;
+      found = met_found;
+      noted = met_noted;
+      behind = λ bound less. met_behind bound;
       adds = noted_passes g e (newly e.witness other.witness) before x s (λ u q. newly_first e.witness other.witness u q);
       count =
           let n = noted_length e.key (newly e.witness other.witness) before in

@@ -1,5 +1,5 @@
 -- Why an entry isn't put, and what is noted all the same.
-use Rattle.std.proofs.Common.{◌≡◌, ◌≢◌, ℕ, ◌+◌, ◌<◌, true, false, Option, Some, None, Result, Ok, Err, IfErr, OnOk, List, [], inl, inr, length, refl, sym, ap, subst, ◌∙◌, arith, append-nil}
+use Rattle.std.proofs.Common.{◌≡◌, ◌≢◌, ℕ, ◌+◌, ◌<◌, true, false, Option, Some, None, Result, Ok, Err, IfErr, IsErrAnd, OnOk, List, [], inl, inr, length, refl, sym, ap, subst, ◌∙◌, arith, append-nil}
 use Rattle.std.specs.Prelude.{All, AllPairs, is_some, slice_index_or}
 use Rattle.std.proofs.lemmas.Bool.{both_ways}
 use Rattle.std.specs.List.{remove}
@@ -29,6 +29,11 @@ use Rattle.wb_explore.proofs.Lists.{apart_only, taken_itself, removed}
 pub if_err : {A B : Type 0} {P Q : B → Type 0} (r : Result A B) → ((e : B) → P e → Q e) → IfErr r P → IfErr r Q
 if_err (Ok x) f h = h
 if_err (Err e) f h = f e h
+
+-- a fault that is handed on
+pub handed_on : {A B : Type 0} (P : B → Type 0) (r : Result A B) (e : B) → IsErrAnd r (λ f. f ≡ e) → P e → IfErr r P
+handed_on P (Ok x) e h p = absurd h
+handed_on P (Err f) e h p = subst P (sym h) p
 
 pub on_ok : {A B : Type 0} {P Q : Type 0} (r : Result A B) → (P → Q) → OnOk r P → OnOk r Q
 on_ok (Ok x) f h = f h

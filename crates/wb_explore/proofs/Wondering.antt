@@ -6,7 +6,7 @@ use Rattle.wb_word.specs.declared.sides.Side.{Side}
 use Rattle.wb_word.specs.declared.sides.Side.TheVariants as side
 use Rattle.wb_rom.specs.declared.images.Image.{Image}
 use Rattle.wb_term.specs.Inputs.{Assignment, IsAssignment}
-use Rattle.wb_term.specs.Terms.{Terms}
+use Rattle.wb_term.specs.Terms.{Terms, IsGraph}
 use Rattle.wb_term.specs.Values.{bit_value}
 use Rattle.wb_term.specs.declared.nodes.BitId.{BitId}
 use Rattle.wb_term.specs.declared.nodes.Node.TheVariants.{Word}
@@ -51,7 +51,7 @@ one_image : (a : Image) (s : Side) → image_of a a s ≡ a
 one_image a side.A = refl
 one_image a side.B = refl
 
-module _ (laws : HeldLaws) (kinds_law : DialoguesAreOfTheirKinds) (keeps : GrowthKeepsStates) (image : Image) (p : Plan) (g : Terms) (e : Entry) (x : IsEntry g image p e) (says : SaysPassing (entry_view g) (runs_of image p) e) where
+module _ (laws : HeldLaws) (kinds_law : DialoguesAreOfTheirKinds) (keeps : GrowthKeepsStates) (image : Image) (p : Plan) (g : Terms) (e : Entry) (x : IsEntry g image p e) (says : SaysPassing (entry_view g) (runs_of image p) e) (graph : IsGraph g) where
   -- the condition is true exactly where the held run passes the point
 
   here_passes : (i : Assignment) → IsAssignment i → bit_value i g e.cond ≡ true → Passes image p.side p.pace (dialogue_under p.kinds i p.power) e.key
@@ -95,8 +95,8 @@ module _ (laws : HeldLaws) (kinds_law : DialoguesAreOfTheirKinds) (keeps : Growt
       by_place (suc k) q = absurd (cc)
 
   chosen_place : (place : Place) → IsPlaceUnder g (e.cond ∷ []) place → IsChosenPlace p.kinds p.power place
-  chosen_place (Byte n b) u = x.cond_inputs.passes u.1 (Word (word.Byte n)) (under_cond u.1 u.3) u.2 refl
-  chosen_place (Cell n b) u = x.cond_inputs.passes u.1 (Word (word.Cell n)) (under_cond u.1 u.3) u.2 refl
+  chosen_place (Byte n b) u = (u.0, x.cond_inputs.passes u.1 (Word (word.Byte n)) (under_cond u.1 u.3) u.2 refl)
+  chosen_place (Cell n b) u = (graph.placed u.1 (Word (word.Cell n)) u.2, u.0, x.cond_inputs.passes u.1 (Word (word.Cell n)) (under_cond u.1 u.3) u.2 refl)
 
   pub asked : (b : Blasted) → IsFormulaOf g e.cond b → IsAsked image p (record { query = question_of p e.key; blasted = b })
   asked b f = record {
@@ -104,6 +104,8 @@ module _ (laws : HeldLaws) (kinds_law : DialoguesAreOfTheirKinds) (keeps : Growt
     kinds = refl;
     marks = All-cons (λ (m : Point). m.side ≡ p.side) e.key [] x.side (All-nil (λ (m : Point). m.side ≡ p.side));
     last = refl;
+    inputs = f.inputs;
+    once = f.wanted.once;
     places = λ k d less. chosen_place (slice_index_or b.places.items k d) (f.wanted.under k (slice_index_or b.places.items k d) (listed_at b.places.items k d less));
   }
 

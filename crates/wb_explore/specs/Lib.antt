@@ -1,10 +1,16 @@
 pub mod Entries
+pub mod Explored
 pub mod Faults
 pub mod Growth
 pub mod HeldLaws
+pub mod Laws
 pub mod Layers
 pub mod Pending
 pub mod Plans
 pub mod Purses
 pub mod Runs
 pub mod Seen
+pub mod Told
+pub mod Transfers
+pub mod Starts
+pub mod Walk

@@ -88,21 +88,36 @@ pub record ArePending (g : Terms) (image : Image) (p : Plan) (reached : List Rea
   pub sound : AreSound (entry_view g) (runs_of image p) es
   pub known : (e : Entry) → Contains es e → is_some e.witness ≡ true → Contains (points_of reached) e.key
 
--- a point is that of a pending entry with a witness; or it is behind: of a rank up to the bound, and of no entry
+-- a point is behind: of a rank up to the bound, and of no entry
+abbrev pub IsBehind : Image → Plan → List Entry → ℕ → Point → Type 0
+IsBehind image p es bound x = (rank_at image p.pace x ≤ bound) × ((e : Entry) → Contains es e → e.key ≢ x)
+
+-- a point is that of a pending entry with a witness, or it is behind
 abbrev pub IsPlaced : Image → Plan → List Entry → ℕ → Point → Type 0
-IsPlaced image p es bound x =
-    IsFound es x ⊎ ((rank_at image p.pace x ≤ bound) × ((e : Entry) → Contains es e → e.key ≢ x))
+IsPlaced image p es bound x = IsFound es x ⊎ IsBehind image p es bound x
+
+-- what is behind the first entries is behind the second ones
+abbrev pub StaysBehind : Image → Plan → List Entry → List Entry → ℕ → Type 0
+StaysBehind image p es fs bound = (x : Point) → IsBehind image p es bound x → IsBehind image p fs bound x
 
 -- each point of the plan in the purse is placed, and all entries are ahead
 pub record AreAhead (image : Image) (p : Plan) (reached : List ReachedPoint) (es : List Entry) (bound : ℕ) : Type 0 where
   pub placed : (x : ReachedPoint) → Contains reached x → x.point.side ≡ p.side → x.point.kinds ≡ p.kinds → IsPlaced image p es bound x.point
   pub ahead : (e : Entry) → Contains es e → bound ≤ e.rank
 
+-- of each point of the plan in the purse some pending entry has a witness
+abbrev pub AreAllFound : Plan → List ReachedPoint → List Entry → Type 0
+AreAllFound p reached es =
+    (x : ReachedPoint) → Contains reached x → x.point.side ≡ p.side → x.point.kinds ≡ p.kinds → IsFound es x.point
+
 -- An entry was put among others, alone or joined with that of its point.
 pub record IsPut (image : Image) (p : Plan) (g h : Terms) (before after : List ReachedPoint) (es : List Entry) (e : Entry) (fs : List Entry) : Type 0 where
   pub pending : ArePending h image p after fs
   pub carries : Carries (runs_of image p) (entry_view g) (es ++ e ∷ []) (entry_view h) fs
   pub ahead : (bound : ℕ) → AreAhead image p before es bound → bound < e.rank → AreAhead image p after fs bound
+  pub found : AreAllFound p before es → AreAllFound p after fs
+  pub noted : is_some e.witness ≡ true → Contains (points_of after) e.key
+  pub behind : (bound : ℕ) → bound < e.rank → StaysBehind image p es fs bound
   pub adds : AddsPassed image p before after
   pub count : length before + found_in fs ≤ length after + found_in es
   pub longer : length fs ≤ length es + 1
@@ -166,6 +181,7 @@ pub record IsPutAhead (image : Image) (p : Plan) (g h : Terms) (before after : L
   pub pending : ArePending h image p after fs
   pub carries : Carries (runs_of image p) (entry_view g) (es ++ e ∷ []) (entry_view h) fs
   pub ahead : AreAhead image p after fs bound
+  pub behind : StaysBehind image p es fs bound
   pub count : length before + found_in fs ≤ length after + found_in es
   pub longer : length fs ≤ length es + 1
 
@@ -188,6 +204,7 @@ pub record AreArrivals (g : Terms) (image : Image) (p : Plan) (e : Entry) (ns : 
 pub record IsGoneOn (image : Image) (p : Plan) (g h : Terms) (before after : List ReachedPoint) (es : List Entry) (e : Entry) (fs : List Entry) : Type 0 where
   pub pending : ArePending h image p after fs
   pub ahead : AreAhead image p after fs e.rank
+  pub behind : StaysBehind image p es fs e.rank
   pub carries : Carries (runs_of image p) (entry_view g) es (entry_view h) fs
   pub arrives : (i : Assignment) → IsAssignment i → (d : Chip) → Comes (runs_of image p) i d → IsAt (entry_view g) (runs_of image p) i e d → IsAtSome (entry_view h) (runs_of image p) fs i (stepped image d)
   pub count : length before + found_in fs ≤ length after + found_in es
@@ -230,6 +247,7 @@ pub record ArePutAhead (image : Image) (p : Plan) (g h : Terms) (before after : 
   pub pending : ArePending h image p after fs
   pub carries : Carries (runs_of image p) (entry_view g) (es ++ ns) (entry_view h) fs
   pub ahead : AreAhead image p after fs bound
+  pub behind : StaysBehind image p es fs bound
   pub count : length before + found_in fs ≤ length after + found_in es
   pub longer : length fs ≤ length es + 2
 

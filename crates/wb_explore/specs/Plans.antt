@@ -9,7 +9,7 @@ use Rattle.wb_port.specs.declared.accesses.Kind.{Kind}
 use Rattle.wb_port.specs.declared.accesses.Kind.TheVariants as kind
 use Rattle.wb_port.specs.declared.accesses.Power.{Power}
 use Rattle.wb_port.specs.declared.accesses.Power.TheVariants as power
-use Rattle.wb_port.specs.Talk.{Talk, kinds, IsTransfer}
+use Rattle.wb_port.specs.Talk.{Talk, kinds, IsTransfer, IsTalk}
 use Rattle.wb_port.specs.Dialogue.{AllowsStart}
 use Rattle.wb_point.specs.Dialogues.{dialogue_under}
 use Rattle.wb_explore.specs.declared.plan.Plan.{Plan}
@@ -25,11 +25,12 @@ runs_of image p = record {
   talk = λ i. dialogue_under p.kinds i p.power;
 }
 
--- the dialogue has the plan's kinds, no status read, and an allowed start
+-- the dialogue has the plan's kinds, no status read, and an allowed start; its numbers are words and bytes
 pub record IsPlanned (p : Plan) (d : Talk) : Type 0 where
   pub kinds : kinds d.accesses ≡ p.kinds
   pub transfers : All IsTransfer d.accesses
   pub start : AllowsStart p.power d.start
+  pub talk : IsTalk d
 
 abbrev pub is_write : Option Kind → Bool
 is_write (Some kind.Write) = true

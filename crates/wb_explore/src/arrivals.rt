@@ -291,6 +291,7 @@ pub(crate) fn arrive(
     ensures budget { purse.new.budget ≡ purse.old.budget }
     ensures grown { Grown graph.old graph.new }
     ensures adds { AddsAtMost graph.old graph.new 301 5001 }
+    ensures alone { All (λ f. f.key ≢ entry.key) pending.old.items → graph.new ≡ graph.old }
 {
     match place_of(pending, &entry.key) {
         None => arrive_alone(graph, alloc, image, plan, purse, pending, entry),

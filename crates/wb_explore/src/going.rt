@@ -123,7 +123,11 @@ fn inputs_cells(alloc: Global, inputs: &Inputs) -> Result<Vec<u16>, OutOfMemory>
 }
 
 /// The conditions of the two ways of a fork: the entry's, and that of the fork or not.
-fn branches(graph: &mut Graph, here: BitId, cond: BitId) -> Result<(BitId, BitId), OutOfMemory>
+pub(crate) fn branches(
+    graph: &mut Graph,
+    here: BitId,
+    cond: BitId,
+) -> Result<(BitId, BitId), OutOfMemory>
     requires here { HasBit graph.old here }
     requires cond { HasBit graph.old cond }
     requires room { length graph.old.nodes + 3 ≤ 2 ^ 31 }

@@ -1,10 +1,11 @@
 ghost use Rattle.std.specs.Prelude.{◌≡◌, ◌≤◌, ◌^◌, ℕ, [], ◌∷◌, IfOk, IfErr};
 ghost use Rattle.wb_blast.specs.Number.{IsGateNumber};
 ghost use Rattle.wb_query.specs.Asking.{IsFound, IsAskFault};
+ghost use Rattle.wb_query.specs.Oracles.{AnswersNext, GivesOneMore};
 ghost use Rattle.wb_explore.specs.Entries.{SaysPassing};
 ghost use Rattle.wb_explore.specs.Plans.{runs_of};
 ghost use Rattle.wb_explore.specs.Purses.{Holding};
-ghost use Rattle.wb_explore.specs.Faults.{IsCause};
+ghost use Rattle.wb_explore.specs.Faults.{IsCause, OfBadAnswer};
 ghost use Rattle.wb_explore.specs.Pending.{entry_view, IsEntry, question_of, asked_by, answered_by};
 
 use crate::entries::Entry;
@@ -77,12 +78,16 @@ pub(crate) fn ask_point<O: Oracle>(
     requires light { (n : ℕ) → IsGateNumber graph.now (entry.now.cond ∷ []) n → n ≤ 2 ^ 31 }
     ensures found { IfOk result (IsFound graph.now entry.now.cond) }
     ensures fault { IfErr result (λ f. (before : Holding) → before.budget.conflicts ≡ O.limit_of oracle.old → IsCause image.now plan.now (O.is_sound oracle.old) before f) }
+    ensures last { IfErr result (OfBadAnswer (λ c answer. AnswersNext c (O.held oracle.old) (O.given oracle.old) (O.given oracle.new) answer)) }
+    ensures next { IfOk result (λ _. GivesOneMore (O.held oracle.old) (O.given oracle.old) (O.given oracle.new)) }
     ensures sound { O.is_sound oracle.new ≡ O.is_sound oracle.old }
     ensures limit { O.limit_of oracle.new ≡ O.limit_of oracle.old }
+    ensures held { O.held oracle.new ≡ O.held oracle.old }
 {
     held_laws();
     dialogues_are_of_their_kinds();
     states_stay();
+    let _nodes = graph.len();
     let query = question(alloc, plan, &entry.key)?;
     let found = ask(alloc, graph, entry.cond, oracle);
     answer_of(query, found)

@@ -1,4 +1,4 @@
--- What holds of all dialogues under inputs and of all questions.
+-- What holds of all states, of all dialogues under inputs and of all questions.
 use Rattle.std.specs.Prelude.{◌≡◌, ◌↔◌, ℕ, ◌≤◌, Bool, true, false, Option, Some, List, [], ◌∷◌, ◌++◌, All, length, replicate, slice_get, slice_index}
 use Rattle.wb_term.specs.declared.nodes.BitId.{BitId}
 use Rattle.wb_term.specs.declared.nodes.Node.{Node}
@@ -18,11 +18,20 @@ use Rattle.wb_port.specs.declared.accesses.Power.{Power}
 use Rattle.wb_port.specs.declared.accesses.Power.TheVariants as power
 use Rattle.wb_port.specs.Talk.{Talk, IsTalk, IsTransfer, kinds, transfers}
 use Rattle.wb_port.specs.Dialogue.{AllowsStart}
+use Rattle.wb_port.specs.NextPoint.{shown_of}
+use Rattle.wb_machine.specs.State.{State}
+use Rattle.wb_symstep.specs.declared.state.SymState.{SymState}
+use Rattle.wb_symstep.specs.State.{StandsFor}
 use Rattle.wb_point.specs.declared.question.FixedBit.{FixedBit}
 use Rattle.wb_point.specs.declared.question.Query.{Query}
 use Rattle.wb_point.specs.Dialogues.{access_under, accesses_under, dialogue_under, inputs_of, normalised}
 use Rattle.wb_point.specs.Holds.{HoldsUnder}
 use Rattle.wb_point.specs.Says.{Says}
+use Rattle.wb_point.specs.Shows.{shows}
+
+-- What a state shows is what each machine shows for which it stands.
+abbrev pub StatesShowTheirMachines : Type 0
+StatesShowTheirMachines = (inputs : Assignment) (g : Terms) (s : SymState) (m : State) → StandsFor inputs g s m → shows s ≡ shown_of m
 
 -- A dialogue of data transfers with an allowed start is that of its kinds under its own inputs.
 abbrev pub TalksComeBack : Type 0

@@ -1,7 +1,12 @@
-//! What holds of all dialogues under inputs and of all questions.
-ghost use Rattle.wb_point.specs.Laws.{TalksComeBack, DialoguesAreOfTheirKinds, DialoguesGrowAtTheEnd, NormalisedInputsKeepTheDialogue, NormalisedInputsDecide, NormalisedInputsGiveTheValues, BitsSayQuestions};
+//! What holds of all states, of all dialogues under inputs and of all questions.
+ghost use Rattle.wb_point.specs.Laws.{StatesShowTheirMachines, TalksComeBack, DialoguesAreOfTheirKinds, DialoguesGrowAtTheEnd, NormalisedInputsKeepTheDialogue, NormalisedInputsDecide, NormalisedInputsGiveTheValues, BitsSayQuestions};
 
 use wb_term::values_agree;
+
+/// What a state shows is what each machine shows for which it stands.
+pub fn states_show_their_machines()
+    ensures { StatesShowTheirMachines }
+{}
 
 /// A dialogue of data transfers with an allowed start is that of its kinds under its own inputs.
 pub fn talks_come_back()

@@ -18,7 +18,7 @@ pub use keys::{same_key, same_place, shown};
 pub use laws::{
     bits_say_questions, dialogues_are_of_their_kinds, dialogues_grow_at_the_end,
     normalised_inputs_decide, normalised_inputs_give_the_values,
-    normalised_inputs_keep_the_dialogue, talks_come_back,
+    normalised_inputs_keep_the_dialogue, states_show_their_machines, talks_come_back,
 };
 pub use merging::merge;
 pub use question::{Accesses, FixedBit, FixedBits, Query};

@@ -31,3 +31,9 @@ AnswersNext c (Some answers) (Some before) (Some after) answer =
 AnswersNext c (Some answers) (Some before) None answer = ⊥
 AnswersNext c (Some answers) None after answer = Unit {0}
 AnswersNext c None before after answer = Unit {0}
+
+-- Where an oracle tells its answers and how many it has given, it has given one more, at most one more than there are.
+abbrev pub GivesOneMore : Option (List Answer) → Option ℕ → Option ℕ → Type 0
+GivesOneMore (Some answers) (Some before) after = after ≡ Some (min (before + 1) (length answers + 1))
+GivesOneMore (Some answers) None after = Unit {0}
+GivesOneMore None before after = Unit {0}

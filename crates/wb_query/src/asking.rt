@@ -4,7 +4,7 @@ ghost use Rattle.wb_term.specs.Terms.{HasBit};
 ghost use Rattle.wb_blast.specs.Number.{IsGateNumber};
 ghost use Rattle.wb_derive.specs.Verdict.{IsVerdict};
 ghost use Rattle.wb_query.specs.Asking.{IsFound, IsAskFault, IsFormulaOf, AreSatisfying, OfBadAnswer};
-ghost use Rattle.wb_query.specs.Oracles.{AnswersNext};
+ghost use Rattle.wb_query.specs.Oracles.{AnswersNext, GivesOneMore};
 
 use crate::filling::inputs_of;
 use crate::oracles::Oracle;
@@ -105,6 +105,7 @@ pub fn ask<O: Oracle>(
     ensures found { IfOk result (IsFound graph.now bit) }
     ensures fault { IfErr result (IsAskFault graph.now bit (O.is_sound oracle.old) (O.limit_of oracle.old)) }
     ensures last { IfErr result (OfBadAnswer (λ c answer. AnswersNext c (O.held oracle.old) (O.given oracle.old) (O.given oracle.new) answer)) }
+    ensures next { IfOk result (λ _. GivesOneMore (O.held oracle.old) (O.given oracle.old) (O.given oracle.new)) }
     ensures sound { O.is_sound oracle.new ≡ O.is_sound oracle.old }
     ensures limit { O.limit_of oracle.new ≡ O.limit_of oracle.old }
     ensures held { O.held oracle.new ≡ O.held oracle.old }

@@ -1,162 +1,25 @@
--- Clauses of one literal are made true in order.
-use Rattle.std.proofs.Common.{◌≡◌, ℕ, suc, ◌+◌, ◌<◌, ◌⊎◌, inl, inr, List, [], ◌∷◌, ◌++◌, length, Some, None, refl, sym, ◌∙◌, ap, subst, arith}
+-- The literal of the goal is made true.
+use Rattle.std.proofs.Common.{◌≡◌, ℕ, zero, suc, ◌+◌, ◌-◌, ◌<◌, ◌⊎◌, inl, inr, List, [], ◌∷◌, ◌++◌, length, take, Some, None, refl, sym, ◌∙◌, ap, subst, arith, length-append}
 use Rattle.std.specs.List.{slice_get}
-use Rattle.std.proofs.lemmas.Option.{slice_get_within}
 use Rattle.wb_gate.specs.declared.gates.Lit.{Lit}
-use Rattle.wb_gate.specs.Circuit.{Circuit, variables}
-use Rattle.wb_gate.specs.Clauses.{clauses_of}
-use Rattle.wb_derive.specs.Partial.{Partial, nothing, assume, IsFalse, IsOpen, IsFalsified}
-use Rattle.wb_solve.specs.declared.kept.Watched.{Watched}
-use Rattle.wb_solve.specs.declared.kept.Kept.{Kept}
-use Rattle.wb_solve.specs.declared.kept.Kept.TheVariants.{Empty, One, Wide}
+use Rattle.wb_gate.specs.declared.gates.Goal.{Goal}
+use Rattle.wb_gate.specs.declared.gates.Goal.TheVariants as goal
+use Rattle.wb_gate.specs.Circuit.{Circuit, IsCircuit, GoalBelow, variables, variable}
+use Rattle.wb_gate.specs.Clauses.{gates_clauses, goal_clauses, clauses_of}
+use Rattle.wb_derive.specs.Partial.{Partial, nothing, Occurs}
 use Rattle.wb_solve.specs.declared.trail.Entry.{Entry}
 use Rattle.wb_solve.specs.declared.trail.Reason.{Reason}
 use Rattle.wb_solve.specs.declared.trail.Reason.TheVariants.{Assumed, Clause}
 use Rattle.wb_solve.specs.declared.propagation.Propagation.{Propagation}
 use Rattle.wb_solve.specs.Descent.{IsUnitAt}
-use Rattle.wb_solve.specs.Turns.{FalsifiedAt}
 use Rattle.wb_solve.specs.Trails.{Holds, made, IsJust, AreJust, assumed_by, assumed_in}
-use Rattle.wb_solve.specs.Starting.{IsAssertingTo, IsStarted}
-use Rattle.wb_solve.proofs.Lists.{get_left}
-use Rattle.wb_solve.proofs.Partials.{Below, below_assume, assume_at}
-use Rattle.wb_solve.proofs.Findings.{occurs_below}
+use Rattle.wb_solve.specs.Linking.{operands, AreLinked}
+use Rattle.wb_solve.specs.Guarding.{IsGuarded, AreGuarded}
+use Rattle.wb_solve.specs.Starting.{IsFresh, IsStarted}
+use Rattle.wb_solve.proofs.Lists.{get_left, get_after}
+use Rattle.wb_solve.proofs.Partials.{assume_at}
 use Rattle.wb_solve.proofs.Trailing.{made_push, at_pushed}
-use Rattle.wb_solve.proofs.Visiting.{all_false, falsified_all, held_below}
-
-split : (j k : ℕ) → j < k + 1 → (j < k) ⊎ (j ≡ k)
-split j k h = grind arith
-
-module _ (c : Circuit) (number : ℕ) (s : Propagation) (is : IsAssertingTo c number s) where
-  abbrev p : Partial
-  p = made s.trail.entries
-
-  one_lit : (l m : Lit) (k : ℕ) → slice_get s.kept.items number ≡ Some (One l) → k ≡ number → slice_get s.kept.items k ≡ Some (One m) → m ≡ l
-  one_lit l m k at same found = some_lit (sym found ∙ ap (slice_get s.kept.items) same ∙ at)
-    where
-      some_lit : Some (One m) ≡ Some (One l) → m ≡ l
-      some_lit e = cc
-
-  not_blank : (x : Kept) (k : ℕ) → slice_get s.kept.items number ≡ Some x → (x ≡ Empty → ⊥) → k ≡ number → slice_get s.kept.items k ≡ Some Empty → ⊥
-  not_blank x k at filled same found = filled (some_kept (sym at ∙ ap (slice_get s.kept.items) (sym same) ∙ found))
-    where
-      some_kept : Some x ≡ Some Empty → x ≡ Empty
-      some_kept e = cc
-
-  lit_filled : (l : Lit) → One l ≡ Empty → ⊥
-  lit_filled l e = cc
-
-  wide_filled : (w : Watched) → Wide w ≡ Empty → ⊥
-  wide_filled w e = cc
-
-  wide_not : (w : Watched) (l : Lit) (k : ℕ) → slice_get s.kept.items number ≡ Some (Wide w) → k ≡ number → slice_get s.kept.items k ≡ Some (One l) → ⊥
-  wide_not w l k at same found = no_way (sym at ∙ ap (slice_get s.kept.items) (sym same) ∙ found)
-    where
-      no_way : Some (Wide w) ≡ Some (One l) → ⊥
-      no_way e = cc
-
-  -- the clause holds already, or is watched
-  pub asserted_true : (l : Lit) → slice_get s.kept.items number ≡ Some (One l) → Holds p l → IsAssertingTo c (number + 1) s
-  asserted_true l at holds = record {
-    named = is.named;
-    kept_count = is.kept_count;
-    list_count = is.list_count;
-    variable_count = is.variable_count;
-    kept_all = is.kept_all;
-    watched = is.watched;
-    just = is.just;
-    none_assumed = is.none_assumed;
-    asserted_to = λ k m h found. by k m found (split k number h);
-    filled_to = λ k h found. filled k found (split k number h);
-  }
-    where
-      by : (k : ℕ) (m : Lit) → slice_get s.kept.items k ≡ Some (One m) → (k < number) ⊎ (k ≡ number) → Holds p m
-      by k m found (inl before) = is.asserted_to k m before found
-      by k m found (inr here) = subst (Holds p) (sym (one_lit l m k at here found)) holds
-
-      filled : (k : ℕ) → slice_get s.kept.items k ≡ Some Empty → (k < number) ⊎ (k ≡ number) → ⊥
-      filled k found (inl before) = is.filled_to k before found
-      filled k found (inr here) = not_blank (One l) k at (lit_filled l) here found
-
-  pub asserted_wide : (w : Watched) → slice_get s.kept.items number ≡ Some (Wide w) → IsAssertingTo c (number + 1) s
-  asserted_wide w at = record {
-    named = is.named;
-    kept_count = is.kept_count;
-    list_count = is.list_count;
-    variable_count = is.variable_count;
-    kept_all = is.kept_all;
-    watched = is.watched;
-    just = is.just;
-    none_assumed = is.none_assumed;
-    asserted_to = λ k m h found. by k m found (split k number h);
-    filled_to = λ k h found. filled k found (split k number h);
-  }
-    where
-      by : (k : ℕ) (m : Lit) → slice_get s.kept.items k ≡ Some (One m) → (k < number) ⊎ (k ≡ number) → Holds p m
-      by k m found (inl before) = is.asserted_to k m before found
-      by k m found (inr here) = absurd (wide_not w m k at here found)
-
-      filled : (k : ℕ) → slice_get s.kept.items k ≡ Some Empty → (k < number) ⊎ (k ≡ number) → ⊥
-      filled k found (inl before) = is.filled_to k before found
-      filled k found (inr here) = not_blank (Wide w) k at (wide_filled w) here found
-
-  -- the clause is falsified
-  pub asserted_false : (l : Lit) → slice_get s.kept.items number ≡ Some (One l) → IsFalse p l → FalsifiedAt (clauses_of c ++ []) p number
-  asserted_false l at f =
-      let clause = is.kept_all.each number (One l) at in
-      (clause.0, get_left (clauses_of c) [] number clause.0 clause.1, falsified_all p clause.0 (λ m o. subst (IsFalse p) (sym (clause.2.1 m o)) f))
-
-  pub asserted_empty : slice_get s.kept.items number ≡ Some Empty → FalsifiedAt (clauses_of c ++ []) p number
-  asserted_empty at =
-      let clause = is.kept_all.each number Empty at in
-      (clause.0, get_left (clauses_of c) [] number clause.0 clause.1, subst (IsFalsified p) (sym clause.2) tt)
-
-  pub asserted_below : (l : Lit) → slice_get s.kept.items number ≡ Some (One l) → l.var < s.trail.variables
-  asserted_below l at =
-      let clause = is.kept_all.each number (One l) at in
-      subst (λ n. l.var < n) (sym is.variable_count) (occurs_below (variables c) clause.0 l (is.named number clause.0 clause.1) clause.2.0)
-
-  pub asserted_push : (l : Lit) (new : Propagation) → slice_get s.kept.items number ≡ Some (One l) → IsOpen p l → new.kept.items ≡ s.kept.items → new.watches ≡ s.watches → new.trail.entries ≡ s.trail.entries ++ (record { lit = l; reason = Clause number } ∷ []) → new.trail.variables ≡ s.trail.variables → IsAssertingTo c (number + 1) new
-  asserted_push l new at still same_kept same_watches grown same =
-      let e : Entry = record { lit = l; reason = Clause number } in
-      let clause = is.kept_all.each number (One l) at in
-      let known = clauses_of c ++ [] in
-      let unit : IsUnitAt known p number l = (
-        clause.0,
-        get_left (clauses_of c) [] number clause.0 clause.1,
-        record {
-          there = clause.2.0;
-          still_open = still;
-          others = all_false l p clause.0 (λ m o. inl (clause.2.1 m o));
-        },
-      ) in
-      let just_at = at_pushed (λ front d. IsJust c.inputs known (made front) d.lit d.reason) s.trail.entries e is.just.at unit in
-      let none_at = at_pushed (λ front d. d.reason ≡ Assumed → ⊥) s.trail.entries e is.none_assumed (no_way number) in
-      let q_is : made new.trail.entries ≡ assume p l = ap made grown ∙ made_push s.trail.entries e in
-      let below : Below p (made new.trail.entries) = subst (Below p) (sym q_is) (below_assume p l still) in
-      let holds : Holds (made new.trail.entries) l = ap (λ (q : Partial). q l.var) q_is ∙ assume_at p l in
-      record {
-        named = is.named;
-        kept_count = ap length same_kept ∙ is.kept_count;
-        list_count = ap (λ w. length w.plain) same_watches ∙ is.list_count;
-        variable_count = same ∙ is.variable_count;
-        kept_all = rw same_kept is.kept_all;
-        watched = rw (same_kept, same_watches) is.watched;
-        just = subst (AreJust c.inputs known) (sym grown) (record { at = just_at });
-        none_assumed = λ k d found r. subst (λ es. (i : ℕ) (f : Entry) → slice_get es i ≡ Some f → f.reason ≡ Assumed → ⊥) (sym grown) none_at k d found r;
-        asserted_to = λ k m h found. by k m below holds (ap (λ ks. slice_get ks k) (sym same_kept) ∙ found) (split k number h);
-        filled_to = λ k h found. filled k (ap (λ ks. slice_get ks k) (sym same_kept) ∙ found) (split k number h);
-      }
-    where
-      no_way : (n : ℕ) → Clause n ≡ Assumed → ⊥
-      no_way n r = cc
-
-      by : (k : ℕ) (m : Lit) → Below p (made new.trail.entries) → Holds (made new.trail.entries) l → slice_get s.kept.items k ≡ Some (One m) → (k < number) ⊎ (k ≡ number) → Holds (made new.trail.entries) m
-      by k m below holds found (inl before) = held_below p (made new.trail.entries) m below (is.asserted_to k m before found)
-      by k m below holds found (inr here) = subst (Holds (made new.trail.entries)) (sym (one_lit l m k at here found)) holds
-
-      filled : (k : ℕ) → slice_get s.kept.items k ≡ Some Empty → (k < number) ⊎ (k ≡ number) → ⊥
-      filled k found (inl before) = is.filled_to k before found
-      filled k found (inr here) = not_blank (One l) k at (lit_filled l) here found
+use Rattle.wb_solve.proofs.Gates.{known_split, in_gate, gate_of_at, of_mixed, names_below_of, gates_named, gates_filled}
 
 none_names : (es : List Entry) → ((k : ℕ) (e : Entry) → slice_get es k ≡ Some e → e.reason ≡ Assumed → ⊥) → assumed_in es ≡ []
 none_names [] none = refl
@@ -166,44 +29,134 @@ none_names (e ∷ es) none = by e.reason refl (none_names es (λ k d at. none (s
     by Assumed is rest = absurd (none 0 e refl is)
     by (Clause number) is rest = rest
 
-pub started_blocked : (c : Circuit) (count number : ℕ) (s : Propagation) → IsAssertingTo c count s → FalsifiedAt (clauses_of c ++ []) (made s.trail.entries) number → IsStarted c s (Some number)
-started_blocked c count number s is falsified = (
-  record {
-    named = is.named;
-    variable_count = is.variable_count;
-    just = is.just;
-    stable = λ k e at r. absurd (is.none_assumed k e at r);
-    falsified = falsified;
-  },
-  none_names s.trail.entries is.none_assumed,
-)
+no_step : (j : ℕ) (step : List Lit) → slice_get {X = List Lit} [] j ≡ Some step → ⊥
+no_step j step e = cc
 
-pub started_all : (c : Circuit) (count : ℕ) (s : Propagation) → IsAssertingTo c count s → count ≡ length (clauses_of c) → IsStarted c s None
-started_all c count s is all = (
+no_entry : (k : ℕ) (e : Entry) → slice_get {X = Entry} [] k ≡ Some e → ⊥
+no_entry k e at = cc
+
+take_none : (es : List Entry) → take 0 es ≡ []
+take_none [] = refl
+take_none (e ∷ es) = refl
+
+-- without values only the goal's clause is unit
+guarded_first : (c : Circuit) (q : Partial) → IsCircuit c → ((l : Lit) → c.goal ≡ goal.Lit l → Holds q l) → AreGuarded (clauses_of c) nothing q
+guarded_first c q circuit holds k clause at = by (known_split (gates_clauses c) (goal_clauses c.goal) k clause at)
+  where
+    one : (asked : Goal) (j : ℕ) → c.goal ≡ asked → slice_get (goal_clauses asked) j ≡ Some clause → (l : Lit) → Occurs l clause → Holds q l
+    one (goal.Lit n) zero is found l there =
+        let same : (n ∷ []) ≡ clause = cc in
+        both (subst (Occurs l) (sym same) there)
+      where
+        both : Occurs l (n ∷ []) → Holds q l
+        both (inl here) = subst (Holds q) here (holds n is)
+        both (inr none) = absurd none
+    one (goal.Lit n) (suc j) is found l there = absurd (cc)
+    one goal.Never zero is found l there = let same : [] ≡ clause = cc in absurd (subst (Occurs l) (sym same) there)
+    one goal.Never (suc j) is found l there = absurd (cc)
+    one goal.Always j is found l there = absurd (cc)
+
+    by : (slice_get (gates_clauses c) k ≡ Some clause) ⊎ ((j : ℕ) × (slice_get (goal_clauses c.goal) j ≡ Some clause)) → IsGuarded nothing q clause
+    by (inr there) = λ l o all. one c.goal there.0 refl there.1 l o
+    by (inl here) =
+        let found = in_gate c.inputs c.gates k clause here in
+        let of = gate_of_at (variable (c.inputs + found.0)) found.1 found.3.0 clause found.3.1 in
+        λ l o all. absurd (of_mixed (c.inputs + found.0) (operands found.1) clause l of (λ x names. names_below_of (c.inputs + found.0) found.1 x (circuit.earlier found.0 found.1 found.2) names) all)
+
+started : (c : Circuit) (s : Propagation) → IsCircuit c → AreLinked c (length c.gates) s.links → s.trail.variables ≡ variables c → (c.goal ≡ goal.Never → ⊥) → AreJust c.inputs (clauses_of c ++ []) s.trail.entries → ((k : ℕ) (e : Entry) → slice_get s.trail.entries k ≡ Some e → e.reason ≡ Assumed → ⊥) → ((l : Lit) → c.goal ≡ goal.Lit l → Holds (made s.trail.entries) l) → IsStarted c s None
+started c s circuit linked count goes just none_assumed holds = (
   (
     record {
-      named = is.named;
-      kept_count = is.kept_count;
-      list_count = is.list_count;
-      variable_count = is.variable_count;
-      kept_all = is.kept_all;
-      watched = is.watched;
-      settled = λ k e at r. absurd (is.none_assumed k e at r);
-      asserted = λ k l at. let within = slice_get_within s.kept.items k (One l) at in is.asserted_to k l (omega (arith, is.kept_count, all)) at;
-      filled = λ k at. let within = slice_get_within s.kept.items k Empty at in is.filled_to k (omega (arith, is.kept_count, all)) at;
-      just = is.just;
+      named = gates_named c circuit;
+      filled = gates_filled c goes;
+      linked = linked;
+      variable_count = count;
+      settled = λ k e at r. absurd (none_assumed k e at r);
+      just = just;
       held = record {
         now = λ j step at. absurd (no_step j step at);
-        earlier = λ k e j step at r found. absurd (is.none_assumed k e at r);
+        earlier = λ k e j step at r found. absurd (none_assumed k e at r);
       };
     },
-    λ k w at. (λ f. absurd (nothing_false w.first f), λ f. absurd (nothing_false w.second f)),
+    subst (λ es. AreGuarded (clauses_of c) (made es) (made s.trail.entries)) (sym (take_none s.trail.entries)) (guarded_first c (made s.trail.entries) circuit holds),
   ),
-  none_names s.trail.entries is.none_assumed,
+  none_names s.trail.entries none_assumed,
 )
-  where
-    no_step : (j : ℕ) (step : List Lit) → slice_get {X = List Lit} [] j ≡ Some step → ⊥
-    no_step j step e = cc
 
-    nothing_false : (l : Lit) → IsFalse nothing l → ⊥
-    nothing_false l e = cc
+get_last_of : (xs : List (List Lit)) (d : List Lit) (number : ℕ) → number ≡ length (xs ++ (d ∷ [])) - 1 → slice_get (xs ++ (d ∷ [])) number ≡ Some d
+get_last_of xs d number is =
+    let whole = length-append xs (d ∷ []) in
+    let e : number ≡ length xs + 0 = omega (arith, is, whole) in
+    ap (slice_get (xs ++ (d ∷ []))) e ∙ get_after xs (d ∷ []) 0
+
+module _ (c : Circuit) (s : Propagation) (is : IsFresh c s) where
+  no_entry_here : (k : ℕ) (e : Entry) → slice_get s.trail.entries k ≡ Some e → ⊥
+  no_entry_here k e at = no_entry k e (ap (λ es. slice_get es k) (sym is.none_made) ∙ at)
+
+  pub started_always : c.goal ≡ goal.Always → IsStarted c s None
+  started_always asked =
+      started c s is.circuit is.linked is.variable_count (λ e. never (sym asked ∙ e)) (record { at = λ k e at. absurd (no_entry_here k e at) }) (λ k e at r. no_entry_here k e at) (λ l e. absurd (literal l (sym asked ∙ e)))
+    where
+      never : goal.Always ≡ goal.Never → ⊥
+      never e = cc
+
+      literal : (l : Lit) → goal.Always ≡ goal.Lit l → ⊥
+      literal l e = cc
+
+  pub started_never : (number : ℕ) → c.goal ≡ goal.Never → number ≡ length (clauses_of c) - 1 → IsStarted c s (Some number)
+  started_never number asked last = (
+    record {
+      named = gates_named c is.circuit;
+      variable_count = is.variable_count;
+      just = record { at = λ k e at. absurd (no_entry_here k e at) };
+      stable = λ k e at r. absurd (no_entry_here k e at);
+      falsified = ([], get_left (clauses_of c) [] number [] found, tt);
+    },
+    none_names s.trail.entries (λ k e at r. no_entry_here k e at),
+  )
+    where
+      clauses : clauses_of c ≡ gates_clauses c ++ ([] ∷ [])
+      clauses = ap (λ g. gates_clauses c ++ goal_clauses g) asked
+
+      found : slice_get (clauses_of c) number ≡ Some []
+      found = ap (λ ds. slice_get ds number) clauses ∙ get_last_of (gates_clauses c) [] number (last ∙ ap (λ (ds : List (List Lit)). length ds - 1) clauses)
+
+  pub goal_below : (l : Lit) → c.goal ≡ goal.Lit l → l.var < s.trail.variables
+  goal_below l asked = subst (λ n. l.var < n) (sym is.variable_count) (subst (GoalBelow (variables c)) asked is.circuit.goal_below)
+
+  pub goal_open : (l : Lit) → made s.trail.entries l.var ≡ None
+  goal_open l = ap (λ es. made es l.var) is.none_made
+
+  pub started_lit : (l : Lit) (number : ℕ) (new : Propagation) → c.goal ≡ goal.Lit l → number ≡ length (clauses_of c) - 1 → new.links ≡ s.links → new.trail.entries ≡ s.trail.entries ++ (record { lit = l; reason = Clause number } ∷ []) → new.trail.variables ≡ s.trail.variables → IsStarted c new None
+  started_lit l number new asked last same_links grown same =
+      let e : Entry = record { lit = l; reason = Clause number } in
+      let known = clauses_of c ++ [] in
+      let unit : IsUnitAt known (made s.trail.entries) number l = (
+        l ∷ [],
+        get_left (clauses_of c) [] number (l ∷ []) found,
+        record { there = inl refl; still_open = goal_open l; others = (inl refl, tt) },
+      ) in
+      let just_at = at_pushed (λ front d. IsJust c.inputs known (made front) d.lit d.reason) s.trail.entries e (λ k d at. absurd (no_entry_here k d at)) unit in
+      let none_at = at_pushed (λ front d. d.reason ≡ Assumed → ⊥) s.trail.entries e (λ k d at r. no_entry_here k d at) (no_way number) in
+      started c new is.circuit (subst (AreLinked c (length c.gates)) (sym same_links) is.linked) (same ∙ is.variable_count) (λ never. differ (sym asked ∙ never))
+      (subst (AreJust c.inputs known) (sym grown) (record { at = just_at }))
+      (λ k d at r. subst (λ es. (i : ℕ) (f : Entry) → slice_get es i ≡ Some f → f.reason ≡ Assumed → ⊥) (sym grown) none_at k d at r)
+      (λ m also. subst (Holds (made new.trail.entries)) (one_lit m (sym asked ∙ also)) holds)
+    where
+      clauses : clauses_of c ≡ gates_clauses c ++ ((l ∷ []) ∷ [])
+      clauses = ap (λ g. gates_clauses c ++ goal_clauses g) asked
+
+      found : slice_get (clauses_of c) number ≡ Some (l ∷ [])
+      found = ap (λ ds. slice_get ds number) clauses ∙ get_last_of (gates_clauses c) (l ∷ []) number (last ∙ ap (λ (ds : List (List Lit)). length ds - 1) clauses)
+
+      no_way : (n : ℕ) → Clause n ≡ Assumed → ⊥
+      no_way n r = cc
+
+      differ : goal.Lit l ≡ goal.Never → ⊥
+      differ e = cc
+
+      one_lit : (m : Lit) → goal.Lit l ≡ goal.Lit m → l ≡ m
+      one_lit m e = cc
+
+      holds : Holds (made new.trail.entries) l
+      holds = ap (λ es. made es l.var) grown ∙ ap (λ (q : Partial). q l.var) (made_push s.trail.entries (record { lit = l; reason = Clause number })) ∙ assume_at (made s.trail.entries) l

@@ -6,25 +6,21 @@ use Rattle.wb_gate.specs.declared.gates.Lit.{Lit}
 use Rattle.wb_gate.specs.Circuit.{Circuit, variable}
 use Rattle.wb_gate.specs.Clauses.{clauses_of}
 use Rattle.wb_derive.specs.Partial.{Partial, assume, IsFalse, Occurs}
-use Rattle.wb_solve.specs.declared.kept.Kept.{Kept}
+use Rattle.wb_solve.specs.declared.links.Links.{Links}
 use Rattle.wb_solve.specs.declared.trail.Entry.{Entry}
 use Rattle.wb_solve.specs.declared.trail.Reason.{Reason}
 use Rattle.wb_solve.specs.declared.trail.Reason.TheVariants.{Assumed, Clause}
 use Rattle.wb_solve.specs.Descent.{IsFirstOpen, clause_of, AreValued}
 use Rattle.wb_solve.specs.Trails.{Track, made, IsJust, AreJust, assumed_by, assumed_in}
-use Rattle.wb_solve.specs.Watching.{Watchers, AreGuarded, IsSettled, AreSettled, IsHeld, Waits}
+use Rattle.wb_solve.specs.Guarding.{AreGuarded, AreSettled, IsHeld, Waits}
 use Rattle.wb_solve.specs.Propagating.{IsRunning}
-use Rattle.wb_solve.proofs.Partials.{Below, below_assume}
+use Rattle.wb_solve.proofs.Partials.{Below, below_self, below_assume}
 use Rattle.wb_solve.proofs.Searching.{take_all}
 use Rattle.wb_solve.proofs.Trailing.{made_push, at_pushed}
 use Rattle.wb_solve.proofs.Growing.{assumed_append}
-use Rattle.wb_solve.proofs.Visiting.{held_below}
-use Rattle.wb_solve.proofs.Resting.{running_settled}
+use Rattle.wb_solve.proofs.Quiet.{held_below, all_guarded_below}
 
-pub guarded_below : (kept : List Kept) (q r s : Partial) → Below r s → AreGuarded kept q r → AreGuarded kept q s
-guarded_below kept q r s below was k w at = let is = was k w at in (λ f. held_below r s w.second below (is.0 f), λ f. held_below r s w.first below (is.1 f))
-
-module _ (c : Circuit) (steps : List (List Lit)) (kept : List Kept) (lists : Watchers) (old new : Track) (is : IsRunning c steps kept lists old) (x : ℕ) (grown : new.entries ≡ old.entries ++ (record { lit = record { var = x; neg = true }; reason = Assumed } ∷ [])) (same : new.variables ≡ old.variables) (guarded : AreGuarded kept (made old.entries) (made old.entries)) (first : IsFirstOpen c.inputs (made old.entries) x) where
+module _ (c : Circuit) (steps : List (List Lit)) (links : Links) (old new : Track) (is : IsRunning c steps links old) (x : ℕ) (grown : new.entries ≡ old.entries ++ (record { lit = record { var = x; neg = true }; reason = Assumed } ∷ [])) (same : new.variables ≡ old.variables) (guarded : AreGuarded (clauses_of c) (made old.entries) (made old.entries)) (first : IsFirstOpen c.inputs (made old.entries) x) where
   abbrev e : Entry
   e = record { lit = record { var = x; neg = true }; reason = Assumed }
 
@@ -34,24 +30,20 @@ module _ (c : Circuit) (steps : List (List Lit)) (kept : List Kept) (lists : Wat
   pub decided_below : Below (made old.entries) (made new.entries)
   decided_below = subst (Below (made old.entries)) (sym decided_is) (below_assume (made old.entries) e.lit first.still_open)
 
-  pub decided_running : IsRunning c steps kept lists new
+  pub decided_running : IsRunning c steps links new
   decided_running =
       let p = made old.entries in
       let known = clauses_of c ++ steps in
       let below = decided_below in
-      let settled_at = at_pushed (λ front d. d.reason ≡ Assumed → IsSettled kept (made front)) old.entries e is.settled (λ r. running_settled c steps kept lists old is guarded) in
+      let settled_at = at_pushed (λ front d. d.reason ≡ Assumed → AreGuarded (clauses_of c) (made front) (made front)) old.entries e is.settled (λ r. guarded) in
       let just_at = at_pushed (λ front d. IsJust c.inputs known (made front) d.lit d.reason) old.entries e is.just.at (first, refl) in
       let held_at = at_pushed (λ front d. (j : ℕ) (step : List Lit) → d.reason ≡ Assumed → slice_get steps j ≡ Some step → IsHeld (made front) step ⊎ Waits (made front) d.lit.var step) old.entries e (λ k d at j step r found. is.held.earlier k d j step at r found) (λ j step r found. inl (is.held.now j step found)) in
       record {
         named = is.named;
-        kept_count = is.kept_count;
-        list_count = is.list_count;
-        variable_count = same ∙ is.variable_count;
-        kept_all = is.kept_all;
-        watched = is.watched;
-        settled = subst (AreSettled kept) (sym grown) settled_at;
-        asserted = λ k m at. held_below p (made new.entries) m below (is.asserted k m at);
         filled = is.filled;
+        linked = is.linked;
+        variable_count = same ∙ is.variable_count;
+        settled = subst (AreSettled (clauses_of c)) (sym grown) settled_at;
         just = subst (AreJust c.inputs known) (sym grown) (record { at = just_at });
         held = record {
           now = λ j step at. let found = is.held.now j step at in (found.0, found.1, held_below p (made new.entries) found.0 below found.2);
@@ -59,10 +51,10 @@ module _ (c : Circuit) (steps : List (List Lit)) (kept : List Kept) (lists : Wat
         };
       }
 
-  pub decided_guarded : AreGuarded kept (made (take (length old.entries) new.entries)) (made new.entries)
+  pub decided_guarded : AreGuarded (clauses_of c) (made (take (length old.entries) new.entries)) (made new.entries)
   decided_guarded =
       let front : take (length old.entries) new.entries ≡ old.entries = ap (take (length old.entries)) grown ∙ take_all old.entries (e ∷ []) in
-      subst (λ es. AreGuarded kept (made es) (made new.entries)) (sym front) (guarded_below kept (made old.entries) (made old.entries) (made new.entries) decided_below guarded)
+      subst (λ es. AreGuarded (clauses_of c) (made es) (made new.entries)) (sym front) (all_guarded_below (made old.entries) (made old.entries) (made old.entries) (made new.entries) (clauses_of c) (below_self (made old.entries)) decided_below guarded)
 
   pub decided_assumed : assumed_in new.entries ≡ assumed_in old.entries ++ (x ∷ [])
   decided_assumed = ap assumed_in grown ∙ assumed_append old.entries (e ∷ [])

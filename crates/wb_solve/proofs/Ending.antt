@@ -19,7 +19,8 @@ use Rattle.wb_solve.specs.Starting.{IsBlocked}
 use Rattle.wb_solve.specs.Halting.{IsHalted}
 use Rattle.wb_solve.proofs.Few.{step_fresh}
 use Rattle.wb_solve.proofs.Searching.{names_below}
-use Rattle.wb_solve.proofs.Resting.{known_split, running_stable}
+use Rattle.wb_solve.proofs.Gates.{known_split}
+use Rattle.wb_solve.proofs.Resting.{running_stable}
 use Rattle.wb_solve.proofs.Whole.{trail_descends}
 
 -- steps name only inputs
@@ -65,7 +66,7 @@ module _ (c : Circuit) (steps : List Step) (d : Descents) (are : AreSteps c (cla
       let entries = d.propagation.trail.entries in
       let running = is.1 in
       let known = known_to c steps in
-      let stable = running_stable c (clauses_in steps) d.propagation.kept.items d.propagation.watches d.propagation.trail running in
+      let stable = running_stable c (clauses_in steps) d.propagation.links d.propagation.trail running in
       let descent = trail_descends c.inputs (variables c) known (named_known c (clauses_in steps) running.named are) (omega arith) entries running.just stable (Values (made entries)) (gives (made entries) (assumed_in entries) is.2 is.3 refl) in (
         values,
         made_so,

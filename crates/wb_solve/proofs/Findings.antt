@@ -46,7 +46,7 @@ pub length_known : (c : Circuit) (steps : List Step) → length (known_to c step
 length_known c steps =
     length-append (clauses_of c) (clauses_in steps) ∙ ap (λ n. length (clauses_of c) + n) (length-map steps (λ (s : Step). s.clause))
 
-gate_few : (g : Lit) (gate : Gate) → length (gate_clauses g gate) ≤ 6
+pub gate_few : (g : Lit) (gate : Gate) → length (gate_clauses g gate) ≤ 6
 gate_few g (And x y) = omega arith
 gate_few g (Xor x y) = omega arith
 gate_few g (Mux c x y) = omega arith
@@ -57,7 +57,7 @@ goal_few (goal.Lit l) = omega arith
 goal_few goal.Never = omega arith
 goal_few goal.Always = omega arith
 
-gates_few : (next : ℕ) (gates : List Gate) → length (clauses_from next gates) ≤ 6 * length gates
+pub gates_few : (next : ℕ) (gates : List Gate) → length (clauses_from next gates) ≤ 6 * length gates
 gates_few next [] = omega arith
 gates_few next (gate ∷ gates) =
     let first = gate_few (variable next) gate in

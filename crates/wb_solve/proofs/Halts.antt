@@ -13,14 +13,14 @@ use Rattle.wb_solve.specs.Descent.{IsFirstOpen, AreValued, clause_of}
 use Rattle.wb_solve.specs.Search.{clauses_in}
 use Rattle.wb_solve.specs.Course.{known_to}
 use Rattle.wb_solve.specs.Trails.{Track, made, assumed_in}
-use Rattle.wb_solve.specs.Watching.{AreGuarded}
+use Rattle.wb_solve.specs.Guarding.{AreGuarded}
 use Rattle.wb_solve.specs.Propagating.{IsRunning, IsPassed, Grows}
 use Rattle.wb_solve.specs.Starting.{IsBlocked}
 use Rattle.wb_solve.specs.Halting.{IsFitting, IsReady, IsDecided, IsTakenBack, IsResumable, IsHalted}
 use Rattle.wb_solve.proofs.Partials.{Below}
 use Rattle.wb_solve.proofs.Searching.{clauses_more}
 use Rattle.wb_solve.proofs.Growing.{grows_longer, grows_assumed}
-use Rattle.wb_solve.proofs.Moving.{front_below}
+use Rattle.wb_solve.proofs.Visiting.{grown_below}
 use Rattle.wb_solve.proofs.Resting.{running_stable, running_rests}
 use Rattle.wb_solve.proofs.Deciding.{decided_running, decided_guarded, decided_assumed, decided_valued}
 use Rattle.wb_solve.proofs.Returning.{returned_open, returned_below, names_are, returned_running, returned_guarded, returned_assumed, returned_valued}
@@ -33,17 +33,16 @@ take_but_last : {X : Type 0} (xs : List X) (x : X) → take (length xs) (xs ++ (
 take_but_last [] x = refl
 take_but_last (y ∷ xs) x = ap (λ ys. y ∷ ys) (take_but_last xs x)
 
-pub assumed_ready : (c : Circuit) (steps : List (List Lit)) (old new : Descents) (x : ℕ) → IsReady c steps (length old.propagation.trail.entries) old → IsFirstOpen c.inputs (made old.propagation.trail.entries) x → new.propagation.kept.items ≡ old.propagation.kept.items → new.propagation.watches ≡ old.propagation.watches → new.propagation.trail.entries ≡ old.propagation.trail.entries ++ (record { lit = record { var = x; neg = true }; reason = Assumed } ∷ []) → new.propagation.trail.variables ≡ old.propagation.trail.variables → new.assumed.items ≡ old.assumed.items ++ (variable x ∷ []) → new.marks ≡ old.marks → new.next ≡ x → length new.propagation.trail.entries ≤ new.propagation.trail.variables → IsDecided c steps old new
-assumed_ready c steps old new x is first same_kept same_watches grown same assumed same_marks next few =
-    let kept = old.propagation.kept.items in
-    let lists = old.propagation.watches in
+pub assumed_ready : (c : Circuit) (steps : List (List Lit)) (old new : Descents) (x : ℕ) → IsReady c steps (length old.propagation.trail.entries) old → IsFirstOpen c.inputs (made old.propagation.trail.entries) x → new.propagation.links ≡ old.propagation.links → new.propagation.trail.entries ≡ old.propagation.trail.entries ++ (record { lit = record { var = x; neg = true }; reason = Assumed } ∷ []) → new.propagation.trail.variables ≡ old.propagation.trail.variables → new.assumed.items ≡ old.assumed.items ++ (variable x ∷ []) → new.marks ≡ old.marks → new.next ≡ x → length new.propagation.trail.entries ≤ new.propagation.trail.variables → IsDecided c steps old new
+assumed_ready c steps old new x is first same_links grown same assumed same_marks next few =
+    let links = old.propagation.links in
     let track = old.propagation.trail in
     let after = new.propagation.trail in
-    let at_rest = subst (λ es. AreGuarded kept (made es) (made track.entries)) (take_whole track.entries) is.done.1 in
-    let running = decided_running c steps kept lists track after is.done.0 x grown same at_rest first in
-    let guarded = decided_guarded c steps kept lists track after is.done.0 x grown same at_rest first in
-    let names = decided_assumed c steps kept lists track after is.done.0 x grown same at_rest first in
-    let valued = decided_valued c steps kept lists track after is.done.0 x grown same at_rest first in
+    let at_rest = subst (λ es. AreGuarded (clauses_of c) (made es) (made track.entries)) (take_whole track.entries) is.done.1 in
+    let running = decided_running c steps links track after is.done.0 x grown same at_rest first in
+    let guarded = decided_guarded c steps links track after is.done.0 x grown same at_rest first in
+    let names = decided_assumed c steps links track after is.done.0 x grown same at_rest first in
+    let valued = decided_valued c steps links track after is.done.0 x grown same at_rest first in
     let count = length-append track.entries (record { lit = record { var = x; neg = true }; reason = Assumed } ∷ []) in
     let longer : length after.entries ≡ length track.entries + 1 = ap length grown ∙ count in
     record {
@@ -53,8 +52,8 @@ assumed_ready c steps old new x is first same_kept same_watches grown same assum
           marks = ap (λ m. length m.stamps) same_marks ∙ is.fitting.marks;
         };
         done = (
-          rw (same_kept, same_watches) running,
-          rw same_kept guarded,
+          subst (λ ls. IsRunning c steps ls after) (sym same_links) running,
+          guarded,
         );
         within = omega arith;
         valued = subst (λ n. AreValued n (made after.entries)) (sym next) valued;
@@ -82,38 +81,26 @@ passed_ready c steps head old new is passed grows same_assumed same_marks same_n
     }
   where
     below : Below (made old.propagation.trail.entries) (made new.propagation.trail.entries)
-    below =
-        let longer = grows_longer old.propagation.trail.entries new.propagation.trail.entries grows in
-        let front : take (length old.propagation.trail.entries) new.propagation.trail.entries ≡ old.propagation.trail.entries = ap (take (length old.propagation.trail.entries)) grows.1 ∙ take_front old.propagation.trail.entries grows.0 in
-        subst (λ es. Below (made es) (made new.propagation.trail.entries)) front (front_below c.inputs (clauses_of c ++ steps) new.propagation.trail.entries passed.0.just (length old.propagation.trail.entries) longer)
-      where
-        take_front : (xs ys : List Entry) → take (length xs) (xs ++ ys) ≡ xs
-        take_front [] ys = nothing_taken ys
-          where
-            nothing_taken : (zs : List Entry) → take 0 zs ≡ []
-            nothing_taken [] = refl
-            nothing_taken (z ∷ zs) = refl
-        take_front (x ∷ xs) ys = ap (λ zs. x ∷ zs) (take_front xs ys)
+    below = grown_below c.inputs (clauses_of c ++ steps) old.propagation.trail.entries new.propagation.trail.entries passed.0.just grows
 
 pub running_blocked : (c : Circuit) (steps : List (List Lit)) (s : Descents) (number : ℕ) → IsPassed c steps s.propagation (length s.propagation.trail.entries) (Some number) → IsBlocked c steps s.propagation number
 running_blocked c steps s number passed = record {
   named = passed.0.named;
   variable_count = passed.0.variable_count;
   just = passed.0.just;
-  stable = running_stable c steps s.propagation.kept.items s.propagation.watches s.propagation.trail passed.0;
+  stable = running_stable c steps s.propagation.links s.propagation.trail passed.0;
   falsified = passed.1;
 }
 
 pub rests_halted : (c : Circuit) (steps : List (List Lit)) (s : Descents) → IsReady c steps (length s.propagation.trail.entries) s → AreValued c.inputs (made s.propagation.trail.entries) → IsHalted c steps s halt.Values
 rests_halted c steps s is valued =
     let entries = s.propagation.trail.entries in
-    let at_rest = subst (λ es. AreGuarded s.propagation.kept.items (made es) (made entries)) (take_whole entries) is.done.1 in
-    (is.fitting, is.done.0, running_rests c steps s.propagation.kept.items s.propagation.watches s.propagation.trail is.done.0 at_rest, valued)
+    let at_rest = subst (λ es. AreGuarded (clauses_of c) (made es) (made entries)) (take_whole entries) is.done.1 in
+    (is.fitting, is.done.0, running_rests c steps s.propagation.links s.propagation.trail is.done.0 at_rest, valued)
 
-pub resumed : (c : Circuit) (steps : List Step) (old new : Descents) (mid : Track) (x number : ℕ) → IsResumable c steps old → IsTakenBack old.propagation.trail mid x → number ≡ length (known_to c steps) - 1 → new.propagation.kept.items ≡ old.propagation.kept.items → new.propagation.watches ≡ old.propagation.watches → new.propagation.trail.entries ≡ mid.entries ++ (record { lit = record { var = x; neg = false }; reason = Clause number } ∷ []) → new.propagation.trail.variables ≡ mid.variables → new.assumed.items ≡ take (length old.assumed.items - 1) old.assumed.items → new.marks ≡ old.marks → new.next ≡ x → IsReady c (clauses_in steps) (length mid.entries) new
-resumed c steps old new mid x number is back count same_kept same_watches grown same assumed same_marks next =
-    let kept = old.propagation.kept.items in
-    let lists = old.propagation.watches in
+pub resumed : (c : Circuit) (steps : List Step) (old new : Descents) (mid : Track) (x number : ℕ) → IsResumable c steps old → IsTakenBack old.propagation.trail mid x → number ≡ length (known_to c steps) - 1 → new.propagation.links ≡ old.propagation.links → new.propagation.trail.entries ≡ mid.entries ++ (record { lit = record { var = x; neg = false }; reason = Clause number } ∷ []) → new.propagation.trail.variables ≡ mid.variables → new.assumed.items ≡ take (length old.assumed.items - 1) old.assumed.items → new.marks ≡ old.marks → new.next ≡ x → IsReady c (clauses_in steps) (length mid.entries) new
+resumed c steps old new mid x number is back count same_links grown same assumed same_marks next =
+    let links = old.propagation.links in
     let track = old.propagation.trail in
     let after = new.propagation.trail in
     let before = clauses_in is.before in
@@ -126,11 +113,11 @@ resumed c steps old new mid x number is back count same_kept same_watches grown 
     let one = length-append (clauses_of c) (clauses_in steps) in
     let two = ap (λ (ds : List (List Lit)). length ds) all ∙ length-append before (clause_of (assumed_in track.entries) ∷ []) in
     let numbered : number ≡ length (clauses_of c) + length before = omega (arith, count, one, two) in
-    let running = returned_running c before kept lists track after is.running front back.rest back.entry back.whole back.is_assumed back.last number numbered grown_here variables_here in
-    let guarded = returned_guarded c before kept lists track after is.running front back.rest back.entry back.whole back.is_assumed back.last number numbered grown_here variables_here in
-    let names = returned_assumed c before kept lists track after is.running front back.rest back.entry back.whole back.is_assumed back.last number numbered grown_here variables_here in
-    let were = names_are c before kept lists track after is.running front back.rest back.entry back.whole back.is_assumed back.last number numbered grown_here variables_here in
-    let valued = returned_valued c before kept lists track after is.running front back.rest back.entry back.whole back.is_assumed back.last number numbered grown_here variables_here in
+    let running = returned_running c before links track after is.running front back.rest back.entry back.whole back.is_assumed back.last number numbered grown_here variables_here in
+    let guarded = returned_guarded c before links track after is.running front back.rest back.entry back.whole back.is_assumed back.last number numbered grown_here variables_here in
+    let names = returned_assumed c before links track after is.running front back.rest back.entry back.whole back.is_assumed back.last number numbered grown_here variables_here in
+    let were = names_are c before links track after is.running front back.rest back.entry back.whole back.is_assumed back.last number numbered grown_here variables_here in
+    let valued = returned_valued c before links track after is.running front back.rest back.entry back.whole back.is_assumed back.last number numbered grown_here variables_here in
     let lits = clause_of (assumed_in front) in
     let old_lits : old.assumed.items ≡ lits ++ (variable back.entry.lit.var ∷ []) = is.fitting.assumed ∙ ap clause_of were ∙ map-append variable (assumed_in front) (back.entry.lit.var ∷ []) in
     let lits_count = length-append lits (variable back.entry.lit.var ∷ []) in
@@ -143,8 +130,8 @@ resumed c steps old new mid x number is back count same_kept same_watches grown 
         marks = ap (λ m. length m.stamps) same_marks ∙ is.fitting.marks;
       };
       done = (
-        rw (same_kept, same_watches) (subst (λ ds. IsRunning c ds kept lists after) (sym all) running),
-        rw same_kept guarded,
+        subst (λ ls. IsRunning c (clauses_in steps) ls after) (sym same_links) (subst (λ ds. IsRunning c ds links after) (sym all) running),
+        guarded,
       );
       within = omega arith;
       valued = subst (λ n. AreValued n (made after.entries)) (back.names ∙ sym next) valued;
@@ -157,8 +144,8 @@ taken_open c steps old mid x is back =
     let track = old.propagation.trail in
     let number = length (clauses_of c) + length before in
     let after : Track = record { entries = mid.entries ++ (record { lit = record { var = back.entry.lit.var; neg = false }; reason = Clause number } ∷ []); variables = track.variables } in
-    let still = returned_open c before old.propagation.kept.items old.propagation.watches track after is.running mid.entries back.rest back.entry back.whole back.is_assumed back.last number refl refl refl in
-    let below = returned_below c before old.propagation.kept.items old.propagation.watches track after is.running mid.entries back.rest back.entry back.whole back.is_assumed back.last number refl refl refl in
+    let still = returned_open c before old.propagation.links track after is.running mid.entries back.rest back.entry back.whole back.is_assumed back.last number refl refl refl in
+    let below = returned_below c before old.propagation.links track after is.running mid.entries back.rest back.entry back.whole back.is_assumed back.last number refl refl refl in
     let names = back.names in
     let count = is.running.variable_count in
     let same = back.same_variables in

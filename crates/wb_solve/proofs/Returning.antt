@@ -7,23 +7,23 @@ use Rattle.wb_gate.specs.declared.gates.Lit.{Lit}
 use Rattle.wb_gate.specs.Circuit.{Circuit, variable}
 use Rattle.wb_gate.specs.Clauses.{clauses_of}
 use Rattle.wb_derive.specs.Partial.{Partial, assume, IsFalse, Occurs}
-use Rattle.wb_solve.specs.declared.kept.Kept.{Kept}
+use Rattle.wb_solve.specs.declared.links.Links.{Links}
 use Rattle.wb_solve.specs.declared.trail.Entry.{Entry}
 use Rattle.wb_solve.specs.declared.trail.Reason.{Reason}
 use Rattle.wb_solve.specs.declared.trail.Reason.TheVariants.{Assumed, Clause}
 use Rattle.wb_solve.specs.Descent.{IsFirstOpen, IsUnitAt, clause_of, AreValued}
 use Rattle.wb_solve.specs.Trails.{Holds, Track, made, IsJust, AreJust, assumed_by, assumed_in}
-use Rattle.wb_solve.specs.Watching.{Watchers, AreGuarded, IsSettled, AreSettled, IsHeld, Waits}
+use Rattle.wb_solve.specs.Guarding.{AreGuarded, AreSettled, IsHeld, Waits}
 use Rattle.wb_solve.specs.Propagating.{IsRunning}
 use Rattle.wb_solve.proofs.Lists.{get_left, get_after}
-use Rattle.wb_solve.proofs.Partials.{Below, below_assume, assume_at}
+use Rattle.wb_solve.proofs.Partials.{Below, below_self, below_assume, assume_at}
 use Rattle.wb_solve.proofs.Searching.{take_all, take_front, last_or_before, get_last}
 use Rattle.wb_solve.proofs.Trailing.{made_push, at_pushed}
 use Rattle.wb_solve.proofs.Hinting.{above, just_new, valued_later}
 use Rattle.wb_solve.proofs.Growing.{assumed_append}
-use Rattle.wb_solve.proofs.Visiting.{held_below, all_false}
-use Rattle.wb_solve.proofs.Moving.{front_below}
-use Rattle.wb_solve.proofs.Deciding.{guarded_below, occurs_assumed, assumed_false, occurs_right, occurs_left}
+use Rattle.wb_solve.proofs.Quiet.{held_below, all_false, all_guarded_below}
+use Rattle.wb_solve.proofs.Visiting.{front_below}
+use Rattle.wb_solve.proofs.Deciding.{occurs_assumed, assumed_false, occurs_right, occurs_left}
 
 occurs_split : (xs ys : List Lit) (l : Lit) → Occurs l (xs ++ ys) → Occurs l xs ⊎ Occurs l ys
 occurs_split [] ys l o = inr o
@@ -44,7 +44,7 @@ just_more inputs known more p l (Clause number) is = (is.0, get_left known more 
 no_clause : (number : ℕ) → Clause number ≡ Assumed → ⊥
 no_clause number e = cc
 
-module _ (c : Circuit) (steps : List (List Lit)) (kept : List Kept) (lists : Watchers) (old new : Track) (is : IsRunning c steps kept lists old) (front rest : List Entry) (d : Entry) (whole : old.entries ≡ front ++ (d ∷ rest)) (is_assumed : d.reason ≡ Assumed) (last : assumed_in rest ≡ []) (number : ℕ) (numbered : number ≡ length (clauses_of c) + length steps) (grown : new.entries ≡ front ++ (record { lit = record { var = d.lit.var; neg = false }; reason = Clause number } ∷ [])) (same : new.variables ≡ old.variables) where
+module _ (c : Circuit) (steps : List (List Lit)) (links : Links) (old new : Track) (is : IsRunning c steps links old) (front rest : List Entry) (d : Entry) (whole : old.entries ≡ front ++ (d ∷ rest)) (is_assumed : d.reason ≡ Assumed) (last : assumed_in rest ≡ []) (number : ℕ) (numbered : number ≡ length (clauses_of c) + length steps) (grown : new.entries ≡ front ++ (record { lit = record { var = d.lit.var; neg = false }; reason = Clause number } ∷ [])) (same : new.variables ≡ old.variables) where
   abbrev x : ℕ
   x = d.lit.var
 
@@ -85,8 +85,8 @@ module _ (c : Circuit) (steps : List (List Lit)) (kept : List Kept) (lists : Wat
   clause_is : clause ≡ clause_of (assumed_in front) ++ (variable x ∷ [])
   clause_is = ap clause_of names_are ∙ map-append variable (assumed_in front) (x ∷ [])
 
-  settled : IsSettled kept p
-  settled = subst (λ es. IsSettled kept (made es)) take_end (is.settled (length front) d d_at is_assumed)
+  settled : AreGuarded (clauses_of c) p p
+  settled = subst (λ es. AreGuarded (clauses_of c) (made es) (made es)) take_end (is.settled (length front) d d_at is_assumed)
 
   first : IsFirstOpen c.inputs p x
   first = subst (λ es. IsFirstOpen c.inputs (made es) x) take_end (just_assumed c.inputs (clauses_of c ++ steps) (made (take (length front) old.entries)) d.lit d.reason is_assumed (is.just.at (length front) d d_at)).0
@@ -179,24 +179,20 @@ module _ (c : Circuit) (steps : List (List Lit)) (kept : List Kept) (lists : Wat
           let f_in : Occurs (variable f.lit.var) clause = subst (Occurs (variable f.lit.var)) (sym clause_is) (occurs_left (clause_of (assumed_in front)) (variable x ∷ []) (variable f.lit.var) (occurs_assumed front k f f_at r)) in
           inr (subst (Waits (made (take k front)) f.lit.var) here.1 (f_in, (variable x, x_in, apart, open_before k (omega arith))))
 
-  pub returned_running : IsRunning c more kept lists new
+  pub returned_running : IsRunning c more links new
   returned_running =
       let known = clauses_of c ++ more in
       let settled_front = λ (k : ℕ) (f : Entry) (at : slice_get front k ≡ Some f) (r : f.reason ≡ Assumed). by k f at r (slice_get_within front k f at) in
-      let settled_at = at_pushed (λ before f. f.reason ≡ Assumed → IsSettled kept (made before)) front e settled_front (λ r. absurd (no_clause number r)) in
+      let settled_at = at_pushed (λ before f. f.reason ≡ Assumed → AreGuarded (clauses_of c) (made before) (made before)) front e settled_front (λ r. absurd (no_clause number r)) in
       let just_all = λ (k : ℕ) (f : Entry) (at : slice_get front k ≡ Some f). subst (λ ks. IsJust c.inputs ks (made (take k front)) f.lit f.reason) (sym known_is) (just_more c.inputs (clauses_of c ++ steps) (clause ∷ []) (made (take k front)) f.lit f.reason (just_front.at k f at)) in
       let just_at = at_pushed (λ before f. IsJust c.inputs known (made before) f.lit f.reason) front e just_all unit in
       let held_at = at_pushed (λ before f. (j : ℕ) (step : List Lit) → f.reason ≡ Assumed → slice_get more j ≡ Some step → IsHeld (made before) step ⊎ Waits (made before) f.lit.var step) front e held_earlier (λ j step r at. absurd (no_clause number r)) in
       record {
         named = is.named;
-        kept_count = is.kept_count;
-        list_count = is.list_count;
-        variable_count = same ∙ is.variable_count;
-        kept_all = is.kept_all;
-        watched = is.watched;
-        settled = subst (AreSettled kept) (sym grown) settled_at;
-        asserted = λ k m at. held_below p (made new.entries) m below (settled.asserted k m at);
         filled = is.filled;
+        linked = is.linked;
+        variable_count = same ∙ is.variable_count;
+        settled = subst (AreSettled (clauses_of c)) (sym grown) settled_at;
         just = subst (AreJust c.inputs known) (sym grown) (record { at = just_at });
         held = record {
           now = held_now;
@@ -204,13 +200,13 @@ module _ (c : Circuit) (steps : List (List Lit)) (kept : List Kept) (lists : Wat
         };
       }
     where
-      by : (k : ℕ) (f : Entry) → slice_get front k ≡ Some f → f.reason ≡ Assumed → k < length front → IsSettled kept (made (take k front))
-      by k f at r within = subst (λ es. IsSettled kept (made es)) (take_old k (omega arith)) (is.settled k f (in_old k f at) r)
+      by : (k : ℕ) (f : Entry) → slice_get front k ≡ Some f → f.reason ≡ Assumed → k < length front → AreGuarded (clauses_of c) (made (take k front)) (made (take k front))
+      by k f at r within = subst (λ es. AreGuarded (clauses_of c) (made es) (made es)) (take_old k (omega arith)) (is.settled k f (in_old k f at) r)
 
-  pub returned_guarded : AreGuarded kept (made (take (length front) new.entries)) (made new.entries)
+  pub returned_guarded : AreGuarded (clauses_of c) (made (take (length front) new.entries)) (made new.entries)
   returned_guarded =
       let before : take (length front) new.entries ≡ front = ap (take (length front)) grown ∙ take_all front (e ∷ []) in
-      subst (λ es. AreGuarded kept (made es) (made new.entries)) (sym before) (guarded_below kept p p (made new.entries) below settled.guarded)
+      subst (λ es. AreGuarded (clauses_of c) (made es) (made new.entries)) (sym before) (all_guarded_below p p p (made new.entries) (clauses_of c) (below_self p) below settled)
 
   pub returned_assumed : assumed_in new.entries ≡ assumed_in front
   returned_assumed = ap assumed_in grown ∙ assumed_append front (e ∷ []) ∙ append-nil (assumed_in front)

@@ -13,7 +13,7 @@ use Rattle.wb_solve.specs.Descent.{IsStable, AreValued, clause_of}
 use Rattle.wb_solve.specs.Search.{clauses_in}
 use Rattle.wb_solve.specs.Trails.{Track, made, assumed_in}
 use Rattle.wb_solve.specs.Propagating.{IsRunningAt, IsDoneTo}
-use Rattle.wb_solve.specs.Starting.{IsAssertingTo, IsBlocked}
+use Rattle.wb_solve.specs.Starting.{IsFresh, IsBlocked}
 
 -- the clause of the negated assumptions is kept, and there is a mark for each variable
 pub record IsFitting (c : Circuit) (d : Descents) : Type 0 where
@@ -63,7 +63,7 @@ IsHalted c steps d halt.Values =
 
 -- nothing was made true or assumed
 pub record IsBegun (c : Circuit) (d : Descents) : Type 0 where
-  pub asserting : IsAssertingTo c 0 d.propagation
+  pub fresh : IsFresh c d.propagation
   pub assumed : d.assumed.items ≡ []
   pub marks : length d.marks.stamps ≡ variables c
   pub next : d.next ≡ 0

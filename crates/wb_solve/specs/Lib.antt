@@ -3,9 +3,10 @@ pub mod Search
 pub mod Laws
 pub mod Course
 pub mod Trails
-pub mod Watching
+pub mod Linking
+pub mod Judging
+pub mod Guarding
 pub mod Propagating
-pub mod Loading
 pub mod Starting
 pub mod Halting
 pub mod Turns

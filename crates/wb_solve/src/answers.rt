@@ -8,7 +8,7 @@ ghost use Rattle.wb_solve.specs.Halting.{IsHalted, IsBegun};
 ghost use Rattle.wb_solve.specs.declared.decisions.Halt.TheVariants as halt;
 
 use crate::decisions::{Descents, Halt};
-use crate::hints::hints_of;
+use crate::hints::write_hints;
 use crate::marks::Marks;
 use crate::propagation::Propagation;
 use crate::values::Values;
@@ -39,6 +39,7 @@ impl Descents {
         Ok(Descents {
             propagation,
             marks,
+            hints: Vec::new(alloc),
             assumed: Vec::new(alloc),
             next: 0,
         })
@@ -50,7 +51,7 @@ impl Descents {
         requires begun { IsBegun formula.now self.old }
         ensures { IfOk result (IsHalted formula.now (clauses_in steps.now) self.new) }
     {
-        match self.propagation.assert_all(formula)? {
+        match self.propagation.assert_goal(formula)? {
             Some(number) => Ok(Halt::Conflict(number)),
             None => self.run(formula, steps, 0),
         }
@@ -70,15 +71,15 @@ impl Descents {
         ensures clause { IfOk result (λ step. step.clause ≡ self.new.assumed.items) }
         ensures halted { IsHalted formula.now (clauses_in steps.now) self.new (halt.Conflict number) }
     {
-        let hints = hints_of(
-            alloc,
+        write_hints(
             formula,
             steps,
             &self.propagation.trail,
             &mut self.marks,
+            &mut self.hints,
             number,
         )?;
-        make_step(alloc, self.assumed.as_slice(), hints.as_slice())
+        make_step(alloc, self.assumed.as_slice(), self.hints.as_slice())
     }
 
     /// The values with which a descent ended.

@@ -20,6 +20,8 @@ use wb_word::OutOfMemory;
 pub struct Descents {
     pub propagation: Propagation,
     pub marks: Marks,
+    /// The hints of the last step.
+    pub hints: Vec<u64>,
     /// The clause of the negated assumptions.
     pub assumed: Vec<Lit>,
     /// The inputs before this one have values.

@@ -1,5 +1,5 @@
 //! The hints of a step: the clauses on which its conflict rests.
-ghost use Rattle.std.specs.Prelude.{◌≡◌, ◌<◌, ◌≤◌, IfOk, IfSome, IfNone, length, reverse};
+ghost use Rattle.std.specs.Prelude.{◌≡◌, ◌<◌, ◌≤◌, OnOk, IfSome, IfNone, length, reverse};
 ghost use Rattle.std.specs.List.{slice_get};
 ghost use Rattle.wb_gate.specs.Circuit.{variables};
 ghost use Rattle.wb_derive.specs.Partial.{nothing, refute};
@@ -11,7 +11,6 @@ ghost use Rattle.wb_solve.specs.Trails.{AllNamed, made, AreJust, assumed_in, mar
 
 use crate::marks::Marks;
 use crate::trail::{Entry, Reason, Trail};
-use std::alloc::Global;
 use wb_derive::Step;
 use wb_gate::Formula;
 use wb_word::OutOfMemory;
@@ -25,7 +24,8 @@ fn mark_number(formula: &Formula, steps: &[Step], marks: &mut Marks, number: u64
     ensures more { MarksMore (marked marks.old) (marked marks.new) }
     ensures stamps { length marks.new.stamps ≡ length marks.old.stamps }
 {
-    match formula.clause_at(number) {
+    let found = formula.clause_at(number);
+    match &found {
         Some(clause) => marks.mark_clause(clause.as_slice()),
         None => {
             let place = (number - formula.clauses()) as usize;
@@ -48,25 +48,25 @@ fn marked_reason(entry: Entry, marks: &Marks) -> Option<u64>
     }
 }
 
-/// The hints of the step of a conflict, in which this clause is falsified: of the clauses that were unit, in order,
-/// those on which it rests, and then the clause itself.
-pub fn hints_of(
-    alloc: Global,
+/// Writes the hints of the step of a conflict, in which this clause is falsified: of the clauses that were unit, in
+/// order, those on which it rests, and then the clause itself.
+pub fn write_hints(
     formula: &Formula,
     steps: &[Step],
     trail: &Trail,
     marks: &mut Marks,
+    hints: &mut Vec<u64>,
     number: u64,
-) -> Result<Vec<u64>, OutOfMemory>
+) -> Result<(), OutOfMemory>
     requires named { AllNamed (variables formula.now) (known_to formula.now steps.now) }
     requires covers { length marks.old.stamps ≡ variables formula.now }
     requires just { AreJust formula.now.inputs (known_to formula.now steps.now) trail.now.entries }
     requires falsified { FalsifiedAt (known_to formula.now steps.now) (made trail.now.entries) number }
-    ensures hints { IfOk result (λ hints. Refutes (known_to formula.now steps.now) hints.items (refute (clause_of (assumed_in trail.now.entries)) nothing)) }
+    ensures hints { OnOk result (Refutes (known_to formula.now steps.now) hints.new.items (refute (clause_of (assumed_in trail.now.entries)) nothing)) }
     ensures stamps { length marks.new.stamps ≡ length marks.old.stamps }
 {
     marks.restart(steps.len() as u64 + 1);
-    let mut hints = Vec::new(alloc);
+    hints.clear();
     hints.push(number)?;
     mark_number(formula, steps, marks, number);
     let mut place = trail.len();
@@ -78,5 +78,5 @@ pub fn hints_of(
         }
     }
     hints.reverse();
-    Ok(hints)
+    Ok(())
 }

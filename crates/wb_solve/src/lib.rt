@@ -5,9 +5,10 @@
 //! negated assumptions is then the next step. The next descent makes the same assumptions but the last, so it goes on
 //! from there.
 //!
-//! `trail` has the literals that were made true, `kept` the clauses without repeated literals, `watches` which of them
-//! watch a literal, and `loading` loads them. `asserting` makes the clauses of one literal true, and `propagation` the
-//! literals of unit clauses. Steps aren't watched: a later step makes each of them true, or its own literal does.
+//! `trail` has the literals that were made true. No clause is kept: `links` finds the gates that name a variable,
+//! `judging` says what the clauses of a gate come to, `asserting` makes the literal of the goal true, and `propagation`
+//! the literals of unit clauses, from gate to gate. Steps aren't visited: a later step makes each of them true, or its
+//! own literal does.
 //! `decisions` assumes and goes back, `marks` and `hints` find the clauses on which a conflict rests, and `answers`
 //! makes steps and values of the end of a descent. `search` has the search and its answer, `values` the values that it
 //! gives, and `laws` what is true of every search. `specs/Descent.antt` has the descent as a relation,
@@ -18,9 +19,9 @@ mod answers;
 mod asserting;
 mod decisions;
 mod hints;
-mod kept;
+mod judging;
 mod laws;
-mod loading;
+mod links;
 mod marks;
 mod propagation;
 mod search;
@@ -28,7 +29,6 @@ mod search;
 mod tests;
 mod trail;
 mod values;
-mod watches;
 
 pub use laws::{
     order_is_free, outcomes_are_one, propagation_is_confluent, stable_values_satisfy, steps_are_few,

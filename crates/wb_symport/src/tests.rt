@@ -3,8 +3,11 @@ ghost use Rattle.wb_term.specs.Terms.{Terms, HasWord};
 ghost use Rattle.wb_symstep.specs.State.{IsSymState};
 ghost use Rattle.wb_symstep.specs.Stepped.{IsStepped};
 
+mod worked;
+
 use super::*;
 use std::alloc::Global;
+use std::process::Abort;
 use std::test::Fail;
 use wb_make::{mk_byte, mk_const, mk_shl};
 use wb_rom::Image;
@@ -87,11 +90,11 @@ const CASES: [Case; 6] = [
     ),
 ];
 
-fn inputs_of(rt: &HostRuntime, first: u8, second: u8) -> Result<Inputs, OutOfMemory> {
+fn inputs_of(alloc: Global, first: u8, second: u8) -> Result<Inputs, OutOfMemory> {
     let mut bytes = [0; 16];
     bytes[0] = first;
     bytes[1] = second;
-    Inputs::new(rt.alloc(), &bytes, &[0; 256])
+    Inputs::new(alloc, &bytes, &[0; 256])
 }
 
 /// The word of a status register.
@@ -110,15 +113,15 @@ fn register(graph: &mut Graph, sr: Control) -> Result<WordId, OutOfMemory>
 }
 
 /// A state with a request, this status register and ABCD in DR.
-fn set_up(rt: &HostRuntime, sr: Control, drs: bool) -> Result<(Graph, SymState), OutOfMemory>
+fn set_up(alloc: Global, sr: Control, drs: bool) -> Result<(Graph, SymState), OutOfMemory>
     ensures state { IfOk result (λ r. IsSymState r.0 r.1) }
     ensures short { IfOk result (λ r. length r.0.nodes ≤ 32) }
 {
-    let table = Rom::zero(rt.alloc())?;
-    let mut graph = Graph::new(rt.alloc(), &table, &table)?;
+    let table = Rom::zero(alloc)?;
+    let mut graph = Graph::new(alloc, &table, &table)?;
     let sr = register(&mut graph, sr)?;
     let dr = mk_const(&mut graph, 0xABCD)?;
-    let mut state = SymState::reset(&mut graph, rt.alloc())?;
+    let mut state = SymState::reset(&mut graph, alloc)?;
     state.rqm = true;
     state.drs = drs;
     state.sr = sr;
@@ -128,14 +131,14 @@ fn set_up(rt: &HostRuntime, sr: Control, drs: bool) -> Result<(Graph, SymState),
 
 /// RQM, DRS and DR of the chosen state under inputs.
 fn seen(
-    rt: &HostRuntime,
+    alloc: Global,
     graph: &Graph,
     stepped: &Stepped,
     inputs: &Inputs,
 ) -> Result<(bool, bool, u16), OutOfMemory>
     requires there { IsStepped graph.now stepped.now }
 {
-    let mut scratch = Scratch::for_graph(rt.alloc(), graph)?;
+    let mut scratch = Scratch::for_graph(alloc, graph)?;
     let state = match stepped {
         Stepped::One(state) => state,
         Stepped::Fork { cond, yes, no } => {
@@ -156,75 +159,81 @@ fn seen(
 }
 
 /// The value of a word under inputs.
-fn value_of(
-    rt: &HostRuntime,
+pub(super) fn value_of(
+    alloc: Global,
     graph: &Graph,
     word: WordId,
     inputs: &Inputs,
 ) -> Result<u16, OutOfMemory>
     requires there { HasWord graph.now word }
 {
-    let mut scratch = Scratch::for_graph(rt.alloc(), graph)?;
+    let mut scratch = Scratch::for_graph(alloc, graph)?;
     let _word = graph.word_at(word);
     Ok(graph.value_word(word, inputs, &mut scratch))
 }
 
-fn status_of(rt: &HostRuntime, sr: Control, drs: bool, first: u8) -> Result<u16, OutOfMemory> {
-    let (mut graph, state) = set_up(rt, sr, drs)?;
+fn status_of(alloc: Global, sr: Control, drs: bool, first: u8) -> Result<u16, OutOfMemory> {
+    let (mut graph, state) = set_up(alloc, sr, drs)?;
     let byte = sym_status(&mut graph, &state)?;
-    value_of(rt, &graph, byte, &inputs_of(rt, first, 0x5A)?)
+    value_of(alloc, &graph, byte, &inputs_of(alloc, first, 0x5A)?)
 }
 
 /// The byte read, and what is seen after the read.
 fn read_of(
-    rt: &HostRuntime,
+    alloc: Global,
     sr: Control,
     drs: bool,
     first: u8,
 ) -> Result<(u16, (bool, bool, u16)), OutOfMemory> {
-    let (mut graph, state) = set_up(rt, sr, drs)?;
+    let (mut graph, state) = set_up(alloc, sr, drs)?;
     let (byte, stepped) = sym_read(&mut graph, &state)?;
-    let inputs = inputs_of(rt, first, 0x5A)?;
+    let inputs = inputs_of(alloc, first, 0x5A)?;
     Ok((
-        value_of(rt, &graph, byte, &inputs)?,
-        seen(rt, &graph, &stepped, &inputs)?,
+        value_of(alloc, &graph, byte, &inputs)?,
+        seen(alloc, &graph, &stepped, &inputs)?,
     ))
 }
 
 /// What is seen after a write of the second byte.
 fn written(
-    rt: &HostRuntime,
+    alloc: Global,
     sr: Control,
     drs: bool,
     first: u8,
 ) -> Result<(bool, bool, u16), OutOfMemory> {
-    let (mut graph, state) = set_up(rt, sr, drs)?;
+    let (mut graph, state) = set_up(alloc, sr, drs)?;
     let stepped = sym_write(&mut graph, &state, 1)?;
-    seen(rt, &graph, &stepped, &inputs_of(rt, first, 0x5A)?)
+    seen(alloc, &graph, &stepped, &inputs_of(alloc, first, 0x5A)?)
 }
 
-#[test]
-fn accesses_go_by_the_status_register(rt: HostRuntime) -> Result<(), Fail> {
-    for (sr, drs, first, status, byte, rqm_after, drs_after, dr_after) in CASES {
-        assert_eq!(rt; status_of(&rt, sr, drs, first)?, status);
+fn expect_cases(rt: &impl Abort, alloc: Global, cases: &[Case]) -> Result<(), Fail> {
+    for (sr, drs, first, status, byte, rqm_after, drs_after, dr_after) in cases {
+        let (sr, drs, first) = (*sr, *drs, *first);
+        assert_eq!(rt; status_of(alloc, sr, drs, first)?, *status);
         assert_eq!(rt;
-            read_of(&rt, sr, drs, first)?,
-            (byte, (rqm_after, drs_after, 0xABCD))
+            read_of(alloc, sr, drs, first)?,
+            (*byte, (*rqm_after, *drs_after, 0xABCD))
         );
         assert_eq!(rt;
-            written(&rt, sr, drs, first)?,
-            (rqm_after, drs_after, dr_after)
+            written(alloc, sr, drs, first)?,
+            (*rqm_after, *drs_after, *dr_after)
         );
     }
     Ok(())
 }
 
+#[test]
+fn accesses_go_by_the_status_register(rt: HostRuntime) -> Result<(), Fail> {
+    expect_cases(&rt, rt.alloc(), &CASES)
+}
+
 /// It moves a written word to the status register, so that DRC is a written bit.
 const WRITTEN_CONTROL: [u32; 6] = [0x000080, 0x97C004, 0x000097, 0x000080, 0x97C010, 0xA0000C];
 
-fn image(alloc: Global) -> Result<Image, Fail> {
+/// A program of these words.
+fn image(alloc: Global, words: &[u32]) -> Result<Image, Fail> {
     let mut bytes = Vec::new(alloc);
-    for word in WRITTEN_CONTROL {
+    for word in words {
         bytes.extend_from_slice(&word.to_le_bytes()[..3])?;
     }
     bytes.resize(8192, 0)?;
@@ -275,21 +284,27 @@ fn controlled(graph: &mut Graph, alloc: Global, image: &Image) -> Result<SymStat
 }
 
 /// Whether the read forks, and what is seen after it, where the two bytes of the word were written.
-fn control_of(rt: &HostRuntime, low: u8, high: u8) -> Result<(bool, (bool, bool, u16)), Fail> {
-    let image = image(rt.alloc())?;
-    let mut graph = Graph::new(rt.alloc(), &image.drom, &image.drom)?;
-    let state = controlled(&mut graph, rt.alloc(), &image)?;
+fn control_of(alloc: Global, low: u8, high: u8) -> Result<(bool, (bool, bool, u16)), Fail> {
+    let image = image(alloc, &WRITTEN_CONTROL)?;
+    let mut graph = Graph::new(alloc, &image.drom, &image.drom)?;
+    let state = controlled(&mut graph, alloc, &image)?;
     let (_, read) = sym_read(&mut graph, &state)?;
     let forks = matches!(read, Stepped::Fork { .. });
-    Ok((forks, seen(rt, &graph, &read, &inputs_of(rt, low, high)?)?))
+    Ok((
+        forks,
+        seen(alloc, &graph, &read, &inputs_of(alloc, low, high)?)?,
+    ))
 }
 
 #[test]
 fn a_read_forks_on_a_written_bit(rt: HostRuntime) -> Result<(), Fail> {
     assert_eq!(rt;
-        control_of(&rt, 0x00, 0x04)?,
+        control_of(rt.alloc(), 0x00, 0x04)?,
         (true, (false, false, 0x0400))
     );
-    assert_eq!(rt; control_of(&rt, 0x00, 0x00)?, (true, (true, true, 0x0000)));
+    assert_eq!(rt;
+        control_of(rt.alloc(), 0x00, 0x00)?,
+        (true, (true, true, 0x0000))
+    );
     Ok(())
 }

@@ -14,5 +14,6 @@ returns c = answer_once (record {
     source_never_both = c.each_source_has_one_answer.ensures.never_both;
   };
   one_file = c.files_pair_with_images.ensures.one_file;
+  one_text = c.verdicts_have_one_text.ensures.verdicts;
   one_transcript = c.each_script_has_one_transcript.ensures.only;
 })

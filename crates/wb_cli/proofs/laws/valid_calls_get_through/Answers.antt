@@ -1,3 +1,4 @@
+use Rattle.wb_cli.proofs.Deciding.{DemoLaws}
 use Rattle.wb_cli.proofs.Holding.{KindLaws}
 use Rattle.wb_cli.proofs.Valid.{done_is_expected, valid_is_done}
 use Rattle.wb_cli.proofs.laws.valid_calls_get_through.Goals as goal
@@ -14,4 +15,10 @@ returns c =
       one_source_fault = c.each_source_has_one_answer.ensures.one_fault;
       source_never_both = c.each_source_has_one_answer.ensures.never_both;
     } in
-    record { done = valid_is_done laws; expected = done_is_expected }
+    let demo : DemoLaws = record {
+      bodies = c.numbers_have_bodies.ensures;
+      points = c.pairs_reach_few_points.ensures;
+      going = c.pairs_keep_going.ensures;
+      same = c.pairs_say_the_same.ensures;
+    } in
+    record { done = valid_is_done laws; expected = done_is_expected demo }

@@ -14,8 +14,8 @@ push-requires-clause-still_open c = (taken_open c.args.formula.now c.args.steps.
 pub returns : goal.returns
 returns c =
     let old = c.args.self.now in
-    let new : Descents = record { propagation = record { kept = old.propagation.kept; watches = old.propagation.watches; trail = c.push.new.self }; marks = old.marks; assumed = c.pop.new.self; next = c.take_back-var.result } in
+    let new : Descents = record { propagation = record { links = old.propagation.links; trail = c.push.new.self }; marks = old.marks; hints = old.hints; assumed = c.pop.new.self; next = c.take_back-var.result } in
     let number = c.count_known-number.result - 1 in
     let items : c.pop.new.self.items ≡ take (length old.assumed.items - 1) old.assumed.items = c.pop.ensures.rest ∙ ap (λ n. take (n - 1) old.assumed.items) old.assumed.ok.0 in
     subst (λ head. IsReady c.args.formula.now (clauses_in c.args.steps.now) head new) (sym c.len-head.ensures.length)
-    (resumed c.args.formula.now c.args.steps.now old new c.take_back-var.new.trail c.take_back-var.result number c.requires c.take_back-var.ensures (ap (λ n. n - 1) c.count_known-number.ensures) refl refl c.in_ok-push.ensures.entries c.in_ok-push.ensures.variables items refl refl)
+    (resumed c.args.formula.now c.args.steps.now old new c.take_back-var.new.trail c.take_back-var.result number c.requires c.take_back-var.ensures (ap (λ n. n - 1) c.count_known-number.ensures) refl c.in_ok-push.ensures.entries c.in_ok-push.ensures.variables items refl refl)

@@ -10,7 +10,7 @@ returns-in-Some c =
     let f = c.args.formula.now in
     let steps = clauses_in c.args.steps.now in
     let old = c.loop-number.self in
-    let new : Descents = record { propagation = c.propagate.new.self; marks = old.marks; assumed = old.assumed; next = old.next } in
+    let new : Descents = record { propagation = c.propagate.new.self; marks = old.marks; hints = old.hints; assumed = old.assumed; next = old.next } in
     let passed = subst (IsPassed f steps new.propagation (length new.propagation.trail.entries)) c.in-Some.is c.in_ok-number.ensures.passed in
     conflict_halted f steps c.loop-number.next old new c.in-Some.number c.loop-number.invariant passed c.in_ok-number.ensures.grows refl refl
 
@@ -19,7 +19,7 @@ first_open-requires c =
     let f = c.args.formula.now in
     let steps = clauses_in c.args.steps.now in
     let old = c.loop-number.self in
-    let new : Descents = record { propagation = c.propagate.new.self; marks = old.marks; assumed = old.assumed; next = old.next } in
+    let new : Descents = record { propagation = c.propagate.new.self; marks = old.marks; hints = old.hints; assumed = old.assumed; next = old.next } in
     let passed = passed_none f steps new (length new.propagation.trail.entries) c.in_ok-number.field-0 c.in_default.not-Some c.in_ok-number.ensures.passed in
     (passed_ready f steps c.loop-number.next old new c.loop-number.invariant passed c.in_ok-number.ensures.grows refl refl refl).valued
 
@@ -28,7 +28,7 @@ returns-in-None c =
     let f = c.args.formula.now in
     let steps = clauses_in c.args.steps.now in
     let old = c.loop-number.self in
-    let new : Descents = record { propagation = c.propagate.new.self; marks = old.marks; assumed = old.assumed; next = old.next } in
+    let new : Descents = record { propagation = c.propagate.new.self; marks = old.marks; hints = old.hints; assumed = old.assumed; next = old.next } in
     let passed = passed_none f steps new (length new.propagation.trail.entries) c.in_ok-number.field-0 c.in_default.not-Some c.in_ok-number.ensures.passed in
     let ready = passed_ready f steps c.loop-number.next old new c.loop-number.invariant passed c.in_ok-number.ensures.grows refl refl refl in
     rests_halted f steps new ready c.in-None.ensures
@@ -38,6 +38,6 @@ assume-requires-clause-ready c =
     let f = c.args.formula.now in
     let steps = clauses_in c.args.steps.now in
     let old = c.loop-number.self in
-    let new : Descents = record { propagation = c.propagate.new.self; marks = old.marks; assumed = old.assumed; next = old.next } in
+    let new : Descents = record { propagation = c.propagate.new.self; marks = old.marks; hints = old.hints; assumed = old.assumed; next = old.next } in
     let passed = passed_none f steps new (length new.propagation.trail.entries) c.in_ok-number.field-0 c.in_default.not-Some c.in_ok-number.ensures.passed in
     passed_ready f steps c.loop-number.next old new c.loop-number.invariant passed c.in_ok-number.ensures.grows refl refl refl

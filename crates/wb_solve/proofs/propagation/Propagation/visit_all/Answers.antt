@@ -1,49 +1,21 @@
-use Rattle.std.proofs.Common.{◌≡◌, ◌≤◌, ◌+◌, suc, take, length, subst, arith}
+use Rattle.std.proofs.Common.{subst}
 use Rattle.wb_solve.specs.Search.{clauses_in}
 use Rattle.wb_solve.specs.Trails.{made}
-use Rattle.wb_solve.specs.Watching.{AreGuarded, watchers}
-use Rattle.wb_solve.specs.Propagating.{IsVisit}
-use Rattle.wb_solve.proofs.Growing.{grows_trans}
-use Rattle.wb_solve.proofs.Visiting.{visiting_ends}
+use Rattle.wb_solve.specs.Propagating.{IsOwnVisit}
+use Rattle.wb_solve.proofs.Visiting.{all_visited, grows_on, passed_of}
 use Rattle.wb_solve.proofs.propagation.Propagation.visit_all.Goals as goal
-
-pub loop-place-preserved-in-Stays : goal.loop-place-preserved-in-Stays
-loop-place-preserved-in-Stays c =
-    let f = c.args.formula.now in
-    let steps = clauses_in c.args.steps.now in
-    let s = c.loop-place.self in
-    let t = c.visit.new.self in
-    let visited = subst (IsVisit f steps s t c.args.head c.minus-lit.result c.loop-place.place) c.in-Stays.is c.in_ok-visit.ensures.visit in
-    record {
-      visiting = visited.0;
-      grows = grows_trans c.args.self.now.trail.entries s.trail.entries t.trail.entries c.loop-place.invariant.grows c.in_ok-visit.ensures.grows;
-    }
-
-pub loop-place-preserved : goal.loop-place-preserved
-loop-place-preserved c =
-    let f = c.args.formula.now in
-    let steps = clauses_in c.args.steps.now in
-    let s = c.loop-place.self in
-    let t = c.visit.new.self in
-    let visited = subst (IsVisit f steps s t c.args.head c.minus-lit.result c.loop-place.place) c.in-Leaves.is c.in_ok-visit.ensures.visit in
-    record {
-      visiting = visited.0;
-      grows = grows_trans c.args.self.now.trail.entries s.trail.entries t.trail.entries c.loop-place.invariant.grows c.in_ok-visit.ensures.grows;
-    }
-
-pub returns-in-Conflicts-clause-grows : goal.returns-in-Conflicts-clause-grows
-returns-in-Conflicts-clause-grows c =
-    grows_trans c.args.self.now.trail.entries c.loop-place.self.trail.entries c.visit.new.self.trail.entries c.loop-place.invariant.grows c.in_ok-visit.ensures.grows
 
 pub returns-clause-passed : goal.returns-clause-passed
 returns-clause-passed c =
     let f = c.args.formula.now in
     let steps = clauses_in c.args.steps.now in
-    let s = c.loop-place.self in
-    let l = c.minus-lit.result in
-    let whole : length (watchers s.watches l) ≤ c.loop-place.place = omega (arith, c.loop-place-test.false, c.count.ensures) in
-    let e : suc c.args.head ≡ c.args.head + 1 = omega arith in (
-      c.loop-place.invariant.visiting.running,
-      subst (λ k. AreGuarded s.kept.items (made (take k s.trail.entries)) (made s.trail.entries)) e
-          (visiting_ends f steps s.kept.items s.watches s.trail c.args.head l c.loop-place.place c.loop-place.invariant.visiting whole),
-    )
+    let old = c.args.self.now in
+    let mid = c.visit_own.new.self in
+    let new = c.visit_users.new.self in
+    let e = c.entry-var.result in
+    let own = subst (IsOwnVisit f steps mid e.lit.var) c.in_default.is c.in_ok-clause.ensures.visit in
+    passed_of f steps (made mid.trail.entries) mid new e.lit.var c.args.head c.visit_users.result c.visit_users.ensures.visits c.visit_users.ensures.grows
+    (λ running users more. all_visited f steps old mid new c.args.head e c.entry-var.ensures.entry c.requires.done running own.0 c.in_ok-clause.ensures.grows more own.1 users)
+
+pub returns-clause-grows : goal.returns-clause-grows
+returns-clause-grows c = grows_on c.args.self.now.trail.entries c.visit_own.new.self.trail.entries c.visit_users.new.self.trail.entries c.visit_users.result c.in_ok-clause.ensures.grows c.visit_users.ensures.grows

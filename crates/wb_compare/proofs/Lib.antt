@@ -1,0 +1,16 @@
+pub mod Causes
+pub mod Counting
+pub mod Deeper
+pub mod Differing
+pub mod Following
+pub mod Going
+pub mod Growth
+pub mod Joints
+pub mod Nexts
+pub mod Lists
+pub mod Places
+pub mod Replying
+pub mod Silent
+pub mod Talks
+pub mod Underway
+pub mod Whole

@@ -1,0 +1,9 @@
+pub mod Endings
+pub mod Growing
+pub mod Laws
+pub mod Licences
+pub mod Questions
+pub mod Settled
+pub mod Telling
+pub mod Verdicts
+pub mod Working

@@ -1,0 +1,5 @@
+pub mod Growth
+pub mod Lists
+pub mod Gathered
+pub mod Kept
+pub mod Shown

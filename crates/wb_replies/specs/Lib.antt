@@ -1,0 +1,4 @@
+pub mod Circuits
+pub mod Gathering
+pub mod Differences
+pub mod Laws

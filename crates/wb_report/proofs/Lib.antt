@@ -1,0 +1,5 @@
+pub mod Lines
+pub mod Lists
+pub mod Moments
+pub mod Fronts
+pub mod Sole

@@ -1,0 +1,5 @@
+pub mod Dialogues
+pub mod Digits
+pub mod Said
+pub mod Verdicts
+pub mod Laws
