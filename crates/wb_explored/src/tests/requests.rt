@@ -138,7 +138,14 @@ fn check_state_at(
     requires each { (q : Request) → Contains layer.now.requests q → IsRequest graph.now layer.now.plan q }
     requires place { place < length layer.now.requests }
 {
-    check_state(rt, alloc, graph, &layer.request_at(place).state, inputs, chip)
+    check_state(
+        rt,
+        alloc,
+        graph,
+        &layer.request_at(place).state,
+        inputs,
+        chip,
+    )
 }
 
 /// One request state is the dialogue's where a request comes, else none.
