@@ -7,11 +7,11 @@ use Rattle.std.specs.Int.{bit_at}
 use Rattle.wb_gate.specs.Circuit.{Circuit, Assignment, variables, xor}
 use Rattle.wb_gate.specs.Growth.{Extends}
 use Rattle.wb_term.specs.Numbers.{bit}
-use Rattle.wb_blast.specs.declared.entries.Entry.{Entry}
-use Rattle.wb_blast.specs.declared.entries.Entry.TheVariants.{T}
+use Rattle.wb_equal.specs.declared.entries.Entry.{Entry}
+use Rattle.wb_equal.specs.declared.entries.Entry.TheVariants.{T}
 use Rattle.wb_blast.specs.declared.bitwise.Operation.{Operation}
 use Rattle.wb_blast.specs.declared.bitwise.Operation.TheVariants.{And, Or, Xor, Choose}
-use Rattle.wb_blast.specs.Entries.{entry_value, IsEntry}
+use Rattle.wb_equal.specs.Entries.{entry_value, IsEntry}
 use Rattle.wb_blast.specs.Operations.{on_bits, on_numbers, OperationBelow, Combined}
 use Rattle.wb_blast.specs.Words.{number, entry_at}
 use Rattle.wb_blast.proofs.Sums.{below_kept, below_set, extends_more, number_lt}

@@ -18,8 +18,8 @@ use Rattle.wb_term.specs.Inputs.{Assignment as Inputs}
 use Rattle.wb_term.specs.Nodes.{children, word_children, bit_children, weight, IsAmong}
 use Rattle.wb_term.specs.Terms.{Terms, IsGraph, HasWord, HasBit, IsPlaced, IsWordPlaced, IsBitPlaced, first_of, holds_word, holds_bit}
 use Rattle.wb_term.specs.Values.{value}
-use Rattle.wb_blast.specs.declared.entries.Entry.{Entry}
-use Rattle.wb_blast.specs.declared.entries.Entry.TheVariants.{T}
+use Rattle.wb_equal.specs.declared.entries.Entry.{Entry}
+use Rattle.wb_equal.specs.declared.entries.Entry.TheVariants.{T}
 use Rattle.wb_blast.specs.declared.places.Place.{Place}
 use Rattle.wb_blast.specs.declared.rows.Rows.{Rows}
 use Rattle.wb_blast.specs.Building.{HasRow, HasParts, CanBuild, AddsRow, IsBuiltRow, Builds, IsReady, Building}

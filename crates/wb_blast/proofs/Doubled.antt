@@ -3,9 +3,9 @@ use Rattle.std.proofs.Common.{◌≡◌, ℕ, ◌+◌, ◌-◌, ◌*◌, ◌<◌
 use Rattle.std.proofs.lemmas.Bool.{cases_lt}
 use Rattle.wb_gate.specs.Circuit.{Assignment}
 use Rattle.wb_term.specs.Numbers.{bit}
-use Rattle.wb_blast.specs.declared.entries.Entry.{Entry}
+use Rattle.wb_equal.specs.declared.entries.Entry.{Entry}
 use Rattle.wb_blast.specs.Doubles.{extended, cut_double}
-use Rattle.wb_blast.specs.Entries.{entry_value}
+use Rattle.wb_equal.specs.Entries.{entry_value}
 use Rattle.wb_blast.specs.Words.{number, entry_at}
 use Rattle.wb_blast.proofs.Bits.{number_bit}
 use Rattle.wb_blast.proofs.Sums.{number_small}

@@ -4,10 +4,10 @@ use Rattle.std.proofs.lemmas.List.{take_all}
 use Rattle.wb_gate.specs.Circuit.{Circuit, Assignment, variables}
 use Rattle.wb_gate.specs.Growth.{Extends}
 use Rattle.wb_term.specs.Numbers.{product}
-use Rattle.wb_blast.specs.declared.entries.Entry.{Entry}
+use Rattle.wb_equal.specs.declared.entries.Entry.{Entry}
 use Rattle.wb_blast.specs.declared.products.Double.{Double}
 use Rattle.wb_blast.specs.Doubles.{double, extended, cut_double, IsDouble, IsDoubleBelow, Multiplied}
-use Rattle.wb_blast.specs.Entries.{entry_value}
+use Rattle.wb_equal.specs.Entries.{entry_value}
 use Rattle.wb_blast.specs.Words.{number, entry_at}
 use Rattle.wb_blast.proofs.Sums.{below_kept, extends_more, number_taken, number_small, taken_lt, pow_next}
 use Rattle.wb_blast.proofs.Multiples.{row_added, row_twice, rows_total}

@@ -10,16 +10,16 @@ use Rattle.wb_term.specs.declared.nodes.Node.TheVariants.{Bit}
 use Rattle.wb_term.specs.Inputs.{Assignment as Inputs, IsAssignment}
 use Rattle.wb_term.specs.Terms.{Terms, IsGraph, HasBit}
 use Rattle.wb_term.specs.Values.{bit_value}
-use Rattle.wb_blast.specs.declared.entries.Entry.{Entry}
-use Rattle.wb_blast.specs.declared.entries.Entry.TheVariants.{T, F}
-use Rattle.wb_blast.specs.declared.entries.Entry.TheVariants as entry
+use Rattle.wb_equal.specs.declared.entries.Entry.{Entry}
+use Rattle.wb_equal.specs.declared.entries.Entry.TheVariants.{T, F}
+use Rattle.wb_equal.specs.declared.entries.Entry.TheVariants as entry
 use Rattle.wb_blast.specs.declared.meeting.Met.{Met}
 use Rattle.wb_blast.specs.declared.places.Place.{Place}
 use Rattle.wb_blast.specs.declared.places.Place.TheVariants.{Byte, Cell}
 use Rattle.wb_blast.specs.declared.rows.Rows.{Rows}
 use Rattle.wb_blast.specs.Blasting.{IsBlasted, AreBlasted, goal_of}
 use Rattle.wb_blast.specs.Building.{Building}
-use Rattle.wb_blast.specs.Entries.{entry_value, EntryBelow}
+use Rattle.wb_equal.specs.Entries.{entry_value, EntryBelow}
 use Rattle.wb_blast.specs.Meeting.{HasMet}
 use Rattle.wb_blast.specs.Number.{weight_at}
 use Rattle.wb_blast.specs.Places.{place_value, GivesInputs, IsPlaceUnder, ArePlaces}

@@ -5,11 +5,11 @@ use Rattle.std.specs.Int.{bit_at}
 use Rattle.wb_gate.specs.Circuit.{Assignment}
 use Rattle.wb_term.specs.Inputs.{Assignment as Inputs, IsAssignment}
 use Rattle.wb_term.specs.Numbers.{bit}
-use Rattle.wb_blast.specs.declared.entries.Entry.{Entry}
-use Rattle.wb_blast.specs.declared.entries.Entry.TheVariants.{T, F}
+use Rattle.wb_equal.specs.declared.entries.Entry.{Entry}
+use Rattle.wb_equal.specs.declared.entries.Entry.TheVariants.{T, F}
 use Rattle.wb_blast.specs.declared.places.Place.{Place}
 use Rattle.wb_blast.specs.declared.places.Place.TheVariants.{Byte, Cell}
-use Rattle.wb_blast.specs.Entries.{entry_value}
+use Rattle.wb_equal.specs.Entries.{entry_value}
 use Rattle.wb_blast.specs.Meeting.{EachOnce}
 use Rattle.wb_blast.specs.Places.{place_value, GivesInputs}
 use Rattle.wb_blast.specs.Words.{number, entry_at}

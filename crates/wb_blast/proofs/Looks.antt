@@ -5,8 +5,8 @@ use Rattle.std.proofs.lemmas.Nat.{mod-pow-add, pow_pos}
 use Rattle.wb_gate.specs.Circuit.{Circuit, Assignment}
 use Rattle.wb_gate.specs.Growth.{Extends}
 use Rattle.wb_term.specs.Numbers.{bit}
-use Rattle.wb_blast.specs.declared.entries.Entry.{Entry}
-use Rattle.wb_blast.specs.Entries.{entry_value}
+use Rattle.wb_equal.specs.declared.entries.Entry.{Entry}
+use Rattle.wb_equal.specs.Entries.{entry_value}
 use Rattle.wb_blast.specs.Words.{number, entry_at, IsNumber}
 use Rattle.wb_blast.proofs.Bits.{number_bit}
 use Rattle.wb_blast.proofs.Sums.{extends_more, pow_next}

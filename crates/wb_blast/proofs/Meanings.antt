@@ -1,8 +1,8 @@
 -- What the negation of an entry means.
 use Rattle.std.proofs.Common.{◌≡◌, ℕ, Bool, not, ◌∙◌, ap}
 use Rattle.wb_gate.specs.Circuit.{Circuit, Assignment}
-use Rattle.wb_blast.specs.declared.entries.Entry.{Entry}
-use Rattle.wb_blast.specs.Entries.{entry_value, EntryBelow, IsEntry}
+use Rattle.wb_equal.specs.declared.entries.Entry.{Entry}
+use Rattle.wb_equal.specs.Entries.{entry_value, EntryBelow, IsEntry}
 
 pub IsEntry-not : (c : Circuit) (e n : Entry) (old new : Assignment → Bool) → IsEntry c e old →
     ((v : Assignment) → entry_value v n ≡ not (entry_value v e)) → ((k : ℕ) → EntryBelow k e → EntryBelow k n) →

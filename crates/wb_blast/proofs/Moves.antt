@@ -7,9 +7,9 @@ use Rattle.std.proofs.lemmas.Nat.Bits.{bit_at-lt, bit_at_above, bit_at-zero, bit
 use Rattle.std.specs.Int.{bit_at}
 use Rattle.wb_gate.specs.Circuit.{Assignment}
 use Rattle.wb_term.specs.Numbers.{bit, cut}
-use Rattle.wb_blast.specs.declared.entries.Entry.{Entry}
-use Rattle.wb_blast.specs.declared.entries.Entry.TheVariants.{T}
-use Rattle.wb_blast.specs.Entries.{entry_value}
+use Rattle.wb_equal.specs.declared.entries.Entry.{Entry}
+use Rattle.wb_equal.specs.declared.entries.Entry.TheVariants.{T}
+use Rattle.wb_equal.specs.Entries.{entry_value}
 use Rattle.wb_blast.specs.Words.{number, entry_at}
 use Rattle.wb_blast.proofs.Bits.{number_bit, number_above, bit_of_bit}
 use Rattle.wb_blast.proofs.Sums.{number_lt}

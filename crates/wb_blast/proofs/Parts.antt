@@ -5,10 +5,10 @@ use Rattle.std.specs.Int.{bit_at}
 use Rattle.wb_gate.specs.Circuit.{Circuit, Assignment, variables}
 use Rattle.wb_term.specs.Inputs.{Assignment as Inputs}
 use Rattle.wb_term.specs.Numbers.{bit}
-use Rattle.wb_blast.specs.declared.entries.Entry.{Entry}
+use Rattle.wb_equal.specs.declared.entries.Entry.{Entry}
 use Rattle.wb_blast.specs.declared.places.Place.{Place}
 use Rattle.wb_blast.specs.declared.places.Place.TheVariants.{Byte, Cell}
-use Rattle.wb_blast.specs.Entries.{entry_value, EntryBelow}
+use Rattle.wb_equal.specs.Entries.{entry_value, EntryBelow}
 use Rattle.wb_blast.specs.Meeting.{places_down, StandsAt}
 use Rattle.wb_blast.specs.Rows.{IsWordOf, IsBitOf}
 use Rattle.wb_blast.specs.Words.{number, entry_at, AreBelow}

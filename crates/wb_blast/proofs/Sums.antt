@@ -6,10 +6,10 @@ use Rattle.std.proofs.lemmas.List.{take_more, take_more_set, length-take, take_a
 use Rattle.wb_gate.specs.Circuit.{Circuit, Assignment, variables, xor, Obeys}
 use Rattle.wb_gate.specs.Growth.{Extends}
 use Rattle.wb_term.specs.Numbers.{bit, cut, less}
-use Rattle.wb_blast.specs.declared.entries.Entry.{Entry}
-use Rattle.wb_blast.specs.declared.entries.Entry.TheVariants.{T, F}
-use Rattle.wb_blast.specs.declared.entries.Entry.TheVariants as entry
-use Rattle.wb_blast.specs.Entries.{entry_value, EntryBelow, IsEntry}
+use Rattle.wb_equal.specs.declared.entries.Entry.{Entry}
+use Rattle.wb_equal.specs.declared.entries.Entry.TheVariants.{T, F}
+use Rattle.wb_equal.specs.declared.entries.Entry.TheVariants as entry
+use Rattle.wb_equal.specs.Entries.{entry_value, EntryBelow, IsEntry}
 use Rattle.wb_blast.specs.Words.{number, entry_at, AreBelow, IsNumber, IsSumOf, Added, Carried, Differing}
 
 pub below_kept : (old new : Circuit) (room : ℕ) (e : Entry) → Extends old new room → EntryBelow (variables old) e → EntryBelow (variables new) e

@@ -8,11 +8,11 @@ use Rattle.wb_term.specs.declared.nodes.BitId.{BitId}
 use Rattle.wb_term.specs.Inputs.{Assignment as Inputs, IsAssignment}
 use Rattle.wb_term.specs.Terms.{Terms}
 use Rattle.wb_term.specs.Values.{bit_value}
-use Rattle.wb_blast.specs.declared.entries.Entry.{Entry}
-use Rattle.wb_blast.specs.declared.entries.Entry.TheVariants.{T, F}
-use Rattle.wb_blast.specs.declared.entries.Entry.TheVariants as entry
+use Rattle.wb_equal.specs.declared.entries.Entry.{Entry}
+use Rattle.wb_equal.specs.declared.entries.Entry.TheVariants.{T, F}
+use Rattle.wb_equal.specs.declared.entries.Entry.TheVariants as entry
 use Rattle.wb_blast.specs.declared.places.Place.{Place}
-use Rattle.wb_blast.specs.Entries.{entry_value, EntryBelow}
+use Rattle.wb_equal.specs.Entries.{entry_value, EntryBelow}
 use Rattle.wb_blast.specs.Number.{IsGateNumber}
 use Rattle.wb_blast.specs.Places.{GivesInputs, HasAssignment, ArePlaces}
 use Rattle.wb_blast.specs.Words.{entry_at}

@@ -8,7 +8,7 @@ use Rattle.wb_term.specs.declared.nodes.Node.TheVariants.{Word, Bit}
 use Rattle.wb_term.specs.Nodes.{children, weight, IsAmong}
 use Rattle.wb_term.specs.Terms.{Terms}
 use Rattle.wb_term.specs.Values.{value}
-use Rattle.wb_blast.specs.declared.entries.Entry.{Entry}
+use Rattle.wb_equal.specs.declared.entries.Entry.{Entry}
 use Rattle.wb_blast.specs.declared.rows.Rows.{Rows}
 use Rattle.wb_blast.specs.Meeting.{node_places, IsMet, StandsAt}
 use Rattle.wb_blast.specs.Number.{AreDistinct, weight_at}

@@ -2,7 +2,7 @@
 use Rattle.std.specs.Prelude.{◌≡◌, ℕ, ◌+◌, ◌*◌, ◌%◌, ◌^◌, if◌then◌else◌, nat_lt, List, take}
 use Rattle.wb_gate.specs.Circuit.{Circuit, Assignment, variables, Obeys}
 use Rattle.wb_gate.specs.Growth.{Extends}
-use Rattle.wb_blast.specs.declared.entries.Entry.{Entry}
+use Rattle.wb_equal.specs.declared.entries.Entry.{Entry}
 use Rattle.wb_blast.specs.declared.products.Double.{Double}
 use Rattle.wb_blast.specs.Words.{number, AreBelow}
 

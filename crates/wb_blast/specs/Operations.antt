@@ -2,10 +2,10 @@
 use Rattle.std.specs.Prelude.{◌≡◌, ℕ, ◌<◌, Bool, ◌&&◌, ◌||◌, if◌then◌else◌, bit_and, bit_or, bit_xor, List}
 use Rattle.wb_gate.specs.Circuit.{Circuit, Assignment, variables, xor, Obeys}
 use Rattle.wb_gate.specs.Growth.{Extends}
-use Rattle.wb_blast.specs.declared.entries.Entry.{Entry}
+use Rattle.wb_equal.specs.declared.entries.Entry.{Entry}
 use Rattle.wb_blast.specs.declared.bitwise.Operation.{Operation}
 use Rattle.wb_blast.specs.declared.bitwise.Operation.TheVariants.{And, Or, Xor, Choose}
-use Rattle.wb_blast.specs.Entries.{entry_value, EntryBelow}
+use Rattle.wb_equal.specs.Entries.{entry_value, EntryBelow}
 use Rattle.wb_blast.specs.Words.{entry_at, AreBelow}
 
 -- the operation on two bits

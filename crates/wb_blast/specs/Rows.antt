@@ -9,10 +9,10 @@ use Rattle.wb_term.specs.declared.nodes.BitNode.TheVariants.{Known, Pick, NotB, 
 use Rattle.wb_term.specs.Inputs.{Assignment as Inputs, IsAssignment}
 use Rattle.wb_term.specs.Terms.{Terms}
 use Rattle.wb_term.specs.Values.{value}
-use Rattle.wb_blast.specs.declared.entries.Entry.{Entry}
+use Rattle.wb_equal.specs.declared.entries.Entry.{Entry}
 use Rattle.wb_blast.specs.declared.places.Place.{Place}
 use Rattle.wb_blast.specs.declared.rows.Rows.{Rows}
-use Rattle.wb_blast.specs.Entries.{entry_value, EntryBelow}
+use Rattle.wb_equal.specs.Entries.{entry_value, EntryBelow}
 use Rattle.wb_blast.specs.Meeting.{IsMet}
 use Rattle.wb_blast.specs.Places.{GivesInputs}
 use Rattle.wb_blast.specs.Words.{number, entry_at, AreBelow}

@@ -3,9 +3,9 @@ use Rattle.std.specs.Prelude.{◌≡◌, ℕ, ◌+◌, ◌*◌, ◌^◌, ◌<◌
 use Rattle.wb_gate.specs.Circuit.{Circuit, Assignment, variables, Obeys}
 use Rattle.wb_gate.specs.Growth.{Extends}
 use Rattle.wb_term.specs.Numbers.{bit}
-use Rattle.wb_blast.specs.declared.entries.Entry.{Entry}
-use Rattle.wb_blast.specs.declared.entries.Entry.TheVariants.{T}
-use Rattle.wb_blast.specs.Entries.{entry_value, EntryBelow}
+use Rattle.wb_equal.specs.declared.entries.Entry.{Entry}
+use Rattle.wb_equal.specs.declared.entries.Entry.TheVariants.{T}
+use Rattle.wb_equal.specs.Entries.{entry_value, EntryBelow}
 
 -- the number that a list of entries stands for
 abbrev pub number : Assignment → List Entry → ℕ

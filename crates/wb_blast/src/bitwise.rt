@@ -2,7 +2,7 @@
 ghost use Rattle.std.specs.Prelude.{◌≡◌, ◌+◌, ◌-◌, ◌≤◌, ℕ, IfOk, length};
 ghost use Rattle.wb_gate.specs.Circuit.{Assignment, variables};
 ghost use Rattle.wb_gate.specs.Growth.{Extends};
-ghost use Rattle.wb_blast.specs.Entries.{entry_value, EntryBelow, IsEntry};
+ghost use Rattle.wb_equal.specs.Entries.{entry_value, EntryBelow, IsEntry};
 ghost use Rattle.wb_blast.specs.Operations.{on_bits, on_numbers, OperationBelow};
 ghost use Rattle.wb_blast.specs.Words.{number, AreBelow, IsNumber};
 

@@ -4,7 +4,7 @@ ghost use Rattle.wb_gate.specs.Circuit.{variables, GoalBelow};
 ghost use Rattle.wb_term.specs.declared.nodes.BitId.{BitId};
 ghost use Rattle.wb_term.specs.Terms.{HasBit};
 ghost use Rattle.wb_blast.specs.Blasting.{AreBlasted, IsBlasted, IsOver, goal_of};
-ghost use Rattle.wb_blast.specs.Entries.{EntryBelow};
+ghost use Rattle.wb_equal.specs.Entries.{EntryBelow};
 ghost use Rattle.wb_blast.specs.Meeting.{HasMet, IsMet};
 ghost use Rattle.wb_blast.specs.Rows.{HasBitRows, AreBitRows};
 

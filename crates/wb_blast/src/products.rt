@@ -4,7 +4,7 @@ ghost use Rattle.wb_gate.specs.Circuit.{Assignment, variables};
 ghost use Rattle.wb_gate.specs.Growth.{Extends};
 ghost use Rattle.wb_term.specs.Numbers.{bit, product};
 ghost use Rattle.wb_blast.specs.Doubles.{double, extended, cut_double, IsDouble, IsDoubleBelow};
-ghost use Rattle.wb_blast.specs.Entries.{entry_value, EntryBelow};
+ghost use Rattle.wb_equal.specs.Entries.{entry_value, EntryBelow};
 ghost use Rattle.wb_blast.specs.Words.{number, AreBelow, IsNumber};
 
 use crate::bitwise::{Operation, combine_words, constant_word, inverted};

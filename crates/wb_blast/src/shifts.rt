@@ -3,7 +3,7 @@ ghost use Rattle.std.specs.Prelude.{◌≡◌, ◌*◌, ◌/◌, ◌^◌, ◌<�
 ghost use Rattle.std.specs.Int.{bit_at};
 ghost use Rattle.wb_gate.specs.Circuit.{Assignment};
 ghost use Rattle.wb_term.specs.Numbers.{bit, cut};
-ghost use Rattle.wb_blast.specs.Entries.{entry_value, EntryBelow};
+ghost use Rattle.wb_equal.specs.Entries.{entry_value, EntryBelow};
 ghost use Rattle.wb_blast.specs.Words.{number, AreBelow};
 
 use crate::entries::Entry;

@@ -3,7 +3,7 @@ ghost use Rattle.std.specs.Prelude.{◌≡◌, ◌+◌, ◌≤◌, ◌==◌, nat
 ghost use Rattle.wb_gate.specs.Circuit.{variables};
 ghost use Rattle.wb_gate.specs.Growth.{Extends};
 ghost use Rattle.wb_term.specs.Numbers.{bit, cut, less};
-ghost use Rattle.wb_blast.specs.Entries.{entry_value, EntryBelow, IsEntry};
+ghost use Rattle.wb_equal.specs.Entries.{entry_value, EntryBelow, IsEntry};
 ghost use Rattle.wb_blast.specs.Words.{number, AreBelow, IsNumber, IsSumOf};
 
 use crate::bitwise::inverted;

@@ -1,7 +1,7 @@
 use Rattle.std.proofs.Common.{◌≡◌, ℕ, ◌<◌, ◌==◌, length}
 use Rattle.std.specs.Int.{bit_at}
 use Rattle.wb_gate.specs.Circuit.{Assignment}
-use Rattle.wb_blast.specs.Entries.{entry_value}
+use Rattle.wb_equal.specs.Entries.{entry_value}
 use Rattle.wb_blast.specs.Words.{entry_at, AreBelow}
 use Rattle.wb_blast.proofs.bitwise.constant_word.Given as goal
 

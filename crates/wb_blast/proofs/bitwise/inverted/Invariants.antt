@@ -1,6 +1,6 @@
 use Rattle.std.proofs.Common.{◌≡◌, ℕ, ◌<◌, not, length}
 use Rattle.wb_gate.specs.Circuit.{Assignment}
-use Rattle.wb_blast.specs.Entries.{entry_value}
+use Rattle.wb_equal.specs.Entries.{entry_value}
 use Rattle.wb_blast.specs.Words.{entry_at, AreBelow}
 use Rattle.wb_blast.proofs.bitwise.inverted.Given as goal
 

@@ -1,9 +1,9 @@
 use Rattle.std.proofs.Common.{◌≡◌, refl, sym, ap, ◌∙◌, subst}
 use Rattle.wb_gate.specs.Circuit.{Circuit, variables, IsCircuit}
 use Rattle.wb_gate.specs.declared.gates.Goal.{Goal}
-use Rattle.wb_blast.specs.declared.entries.Entry.{Entry}
+use Rattle.wb_equal.specs.declared.entries.Entry.{Entry}
 use Rattle.wb_blast.specs.Blasting.{IsBlasted, goal_of}
-use Rattle.wb_blast.specs.Entries.{EntryBelow}
+use Rattle.wb_equal.specs.Entries.{EntryBelow}
 use Rattle.wb_blast.proofs.Finals.{blasted_is, first_entry}
 use Rattle.wb_blast.proofs.blasting.blast.Goals as goal
 

@@ -2,7 +2,7 @@ use Rattle.std.proofs.Common.{sym, subst, arith, List, ◌==◌, ◌/◌, ◌%�
 use Rattle.wb_term.specs.declared.nodes.BitNode.{BitNode}
 use Rattle.wb_term.specs.Terms.{IsBitPlaced}
 use Rattle.wb_term.specs.Values.{word_value, bit_value, bit_node_value, value}
-use Rattle.wb_blast.specs.declared.entries.Entry.{Entry}
+use Rattle.wb_equal.specs.declared.entries.Entry.{Entry}
 use Rattle.wb_blast.specs.Rows.{IsBitOf, IsWordOf, HasBitParts}
 use Rattle.wb_blast.specs.Words.{entry_at}
 use Rattle.wb_blast.proofs.Parts.{known_bit, negated_bit, picked_bit}

@@ -3,7 +3,7 @@ use Rattle.wb_blast.specs.Words.{number}
 use Rattle.wb_term.specs.declared.nodes.WordNode.{WordNode}
 use Rattle.wb_term.specs.Numbers.{cut}
 use Rattle.wb_term.specs.Values.{word_value, bit_value, word_node_value, value}
-use Rattle.wb_blast.specs.declared.entries.Entry.{Entry}
+use Rattle.wb_equal.specs.declared.entries.Entry.{Entry}
 use Rattle.wb_blast.specs.Meeting.{StandsAt, word_places}
 use Rattle.wb_blast.specs.Rows.{IsWordOf, HasWordParts}
 use Rattle.wb_blast.proofs.Parts.{known_word, moved_word, byte_word, cell_word}

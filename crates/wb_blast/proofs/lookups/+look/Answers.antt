@@ -1,6 +1,6 @@
 use Rattle.std.proofs.Common.{◌+◌, ◌-◌, ◌*◌, ◌%◌, ◌^◌, true, false, refl, ap, ◌∙◌, arith, rules}
 use Rattle.wb_term.specs.Terms.{table_words}
-use Rattle.wb_blast.specs.Entries.{entry_value}
+use Rattle.wb_equal.specs.Entries.{entry_value}
 use Rattle.wb_blast.specs.Words.{number}
 use Rattle.wb_blast.proofs.Looks.{halved_bits, looked_none, looked_known, looked_chosen, looked_extends}
 use Rattle.wb_blast.proofs.lookups.+look.Goals as goal

@@ -1,6 +1,6 @@
 use Rattle.std.proofs.Common.{arith}
 use Rattle.wb_blast.proofs.Sums.{below_kept, number_small, bit_few}
-use Rattle.wb_blast.specs.Entries.{entry_value}
+use Rattle.wb_equal.specs.Entries.{entry_value}
 use Rattle.wb_blast.specs.Words.{number, entry_at}
 use Rattle.wb_blast.proofs.Multiples.{sum_of_halves}
 use Rattle.wb_blast.proofs.products.add_doubles.Goals as goal

@@ -1,7 +1,7 @@
 use Rattle.std.proofs.Common.{◌+◌, ◌*◌, ◌∙◌, ap, ap₂}
 use Rattle.wb_gate.specs.Circuit.{xor}
 use Rattle.wb_term.specs.Numbers.{bit}
-use Rattle.wb_blast.specs.Entries.{entry_value}
+use Rattle.wb_equal.specs.Entries.{entry_value}
 use Rattle.wb_blast.proofs.Sums.{below_kept, full_adder}
 use Rattle.wb_blast.proofs.words.add_bits.Goals as goal
 

@@ -1,8 +1,0 @@
-use Rattle.wb_blast.proofs.Gates.{choice_minus}
-use Rattle.wb_blast.proofs.Meanings.{IsEntry-not}
-use Rattle.wb_blast.proofs.entries.mux_gate.Goals as goal
-
-pub returns-in_ok-base-clause-means : goal.returns-in_ok-base-clause-means
-returns-in_ok-base-clause-means c =
-    IsEntry-not c.gate.new.formula c.in_ok-base.base c.negation.result _ _ c.in_ok-base.ensures.means c.negation.ensures.value c.negation.ensures.there
-    (λ v. choice_minus v c.args.c c.args.x c.args.y c.minus.result c.minus-then-x.result c.minus.ensures c.minus-then-x.ensures)

@@ -1,0 +1,19 @@
+//! Formulas in the making, in which equal functions are one literal.
+//!
+//! `Sharing` is a formula to which gates are added. A gate that stands is not added again; nor is one that has the
+//! function of a constant, of an input or of a gate that stands, as far as diagrams within limits tell: its entry is
+//! that constant or that literal.
+//!
+//! `entries` has the entries, which are constants or literals, and the gates over them; `sharing` the formula, and
+//! `functions` what its variables say, as diagrams over the variables. `specs/Entries.antt` says what an entry means,
+//! `specs/Functions.antt` what the diagrams do.
+#![tactic(auto)]
+
+mod entries;
+mod functions;
+mod sharing;
+#[cfg(test)]
+mod tests;
+
+pub use entries::{Entry, and, majority, mux, negation, or, xor};
+pub use sharing::Sharing;
