@@ -2,7 +2,6 @@ pub mod Meanings
 pub mod Moves
 pub mod Bits
 pub mod Factors
-pub mod Gates
 pub mod Lists
 pub mod Doubled
 pub mod Multiples

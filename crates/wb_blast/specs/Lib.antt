@@ -1,7 +1,6 @@
 pub mod Blasting
 pub mod Building
 pub mod Doubles
-pub mod Entries
 pub mod Laws
 pub mod Meeting
 pub mod Number

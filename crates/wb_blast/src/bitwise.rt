@@ -6,9 +6,8 @@ ghost use Rattle.wb_equal.specs.Entries.{entry_value, EntryBelow, IsEntry};
 ghost use Rattle.wb_blast.specs.Operations.{on_bits, on_numbers, OperationBelow};
 ghost use Rattle.wb_blast.specs.Words.{number, AreBelow, IsNumber};
 
-use crate::entries::{Entry, and, mux, negation, or, xor};
-use crate::sharing::Sharing;
 use crate::words::Word;
+use wb_equal::{Entry, Sharing, and, mux, negation, or, xor};
 use wb_word::OutOfMemory;
 
 /// What is done to each two bits.

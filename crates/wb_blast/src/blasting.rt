@@ -1,5 +1,6 @@
 //! Formulas whose satisfying assignments are the inputs under which a bit is true.
 ghost use Rattle.std.specs.Prelude.{◌≡◌, [], ◌∷◌, ◌<◌, ◌≤◌, ◌^◌, ℕ, Some, IfOk, IfErr, length, slice_get};
+ghost use Rattle.wb_gate.specs.declared.gates.Goal.{Goal};
 ghost use Rattle.wb_gate.specs.Circuit.{variables, GoalBelow};
 ghost use Rattle.wb_term.specs.declared.nodes.BitId.{BitId};
 ghost use Rattle.wb_term.specs.Terms.{HasBit};
@@ -9,12 +10,11 @@ ghost use Rattle.wb_blast.specs.Meeting.{HasMet, IsMet};
 ghost use Rattle.wb_blast.specs.Rows.{HasBitRows, AreBitRows};
 
 use crate::building::build;
-use crate::entries::Entry;
 use crate::meeting::{Met, walk};
 use crate::places::Place;
 use crate::rows::Rows;
-use crate::sharing::Sharing;
 use std::alloc::Global;
+use wb_equal::{Entry, Sharing};
 use wb_gate::{Formula, GateFault, Goal, clauses_say_the_gates, inputs_decide};
 use wb_term::{BitId, Graph};
 use wb_word::OutOfMemory;
@@ -46,26 +46,26 @@ fn entries_of(alloc: Global, rows: &Rows, bits: &[BitId]) -> Result<Vec<Entry>, 
     Ok(entries)
 }
 
-/// The formula of the nodes that were met.
-fn blast_met(
+/// The formula of the nodes that were met, from one without gates.
+fn fill(
     alloc: Global,
     graph: &Graph,
     bits: &[BitId],
-    limit: u64,
     met: Met,
+    mut formula: Sharing,
 ) -> Result<Many, OutOfMemory>
     requires there { (k : ℕ) (bit : BitId) → slice_get bits.now k ≡ Some bit → HasBit graph.now bit }
     requires met { HasMet graph.now bits.now met }
-    requires within { met.weight ≤ limit }
-    requires few { limit ≤ 2 ^ 31 }
-    ensures { IfOk result (λ many. AreBlasted graph.now bits.now limit many.formula many.places.items many.entries.items) }
+    requires within { met.weight ≤ formula.limit }
+    requires few { formula.limit ≤ 2 ^ 31 }
+    requires empty { formula ≡ record { inputs = length met.places.items; limit = formula.limit; gates = []; goal = Goal.Never } }
+    ensures { IfOk result (λ many. AreBlasted graph.now bits.now formula.limit many.formula many.places.items many.entries.items) }
 {
     let Met {
         slots,
         places,
         weight: _,
     } = met;
-    let mut formula = Sharing::new(alloc, places.len() as u32, limit);
     let mut rows = Rows {
         places,
         slots,
@@ -85,6 +85,24 @@ fn blast_met(
         places,
         entries,
     })
+}
+
+/// The formula of the nodes that were met.
+fn blast_met(
+    alloc: Global,
+    graph: &Graph,
+    bits: &[BitId],
+    limit: u64,
+    met: Met,
+) -> Result<Many, OutOfMemory>
+    requires there { (k : ℕ) (bit : BitId) → slice_get bits.now k ≡ Some bit → HasBit graph.now bit }
+    requires met { HasMet graph.now bits.now met }
+    requires within { met.weight ≤ limit }
+    requires few { limit ≤ 2 ^ 31 }
+    ensures { IfOk result (λ many. AreBlasted graph.now bits.now limit many.formula many.places.items many.entries.items) }
+{
+    let formula = Sharing::new(alloc, met.places.len() as u32, limit)?;
+    fill(alloc, graph, bits, met, formula)
 }
 
 /// The formula of some bits, with at most so many gates: in a formula that is refused none is made.

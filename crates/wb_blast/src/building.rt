@@ -9,7 +9,7 @@ ghost use Rattle.wb_blast.specs.Meeting.{IsMet};
 
 use crate::circuits::{bit_circuit, word_circuit};
 use crate::rows::Rows;
-use crate::sharing::Sharing;
+use wb_equal::Sharing;
 use wb_term::{BitNode, Graph, Node, WordNode};
 use wb_word::OutOfMemory;
 

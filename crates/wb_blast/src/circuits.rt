@@ -8,14 +8,13 @@ ghost use Rattle.wb_blast.specs.Meeting.{StandsAt, word_places};
 ghost use Rattle.wb_blast.specs.Rows.{IsWordOf, IsBitOf, HasWordParts, HasBitParts};
 
 use crate::bitwise::{Operation, combine_words, constant, constant_word, inverted};
-use crate::entries::{Entry, and, mux, negation, or, xor};
 use crate::inputs::input_word;
 use crate::lookups::look;
 use crate::products::{high_product, low_product};
 use crate::rows::Rows;
-use crate::sharing::Sharing;
 use crate::shifts::{shifted_left, shifted_right};
 use crate::words::{Word, add_words, borrow_of, carry_of, same_words, subtract_words};
+use wb_equal::{Entry, Sharing, and, mux, negation, or, xor};
 use wb_term::{BitNode, Graph, WordNode};
 use wb_word::OutOfMemory;
 

@@ -6,8 +6,8 @@ ghost use Rattle.wb_term.specs.Numbers.{bit};
 ghost use Rattle.wb_equal.specs.Entries.{entry_value, EntryBelow};
 ghost use Rattle.wb_blast.specs.Words.{number, AreBelow};
 
-use crate::entries::Entry;
 use crate::words::Word;
+use wb_equal::Entry;
 use wb_gate::Lit;
 
 /// The word whose lowest bits are so many variables, the highest bit the first of them, filled with zeros.

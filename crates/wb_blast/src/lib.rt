@@ -7,10 +7,10 @@
 //! An `Entry` is what one bit is in a formula, a `Word` what sixteen are, the lowest first. `blasting` has the
 //! formulas, `meeting` the walk that meets the nodes and numbers the inputs, `building` the rows of the nodes in order
 //! of number, `circuits` the circuit of one node, `rows` what the nodes are, and `places` the places of input
-//! variables. `number` has the gate number and `laws` that there is one and that it is light, `children` the numbers below a node and its
-//! weight. `sharing` has the formula in the making, in which equal gates are one. The circuits stand in `entries`, over
-//! bits, `bitwise`, bit by bit on words, `shifts`, `inputs`, the words of input variables, `words`, which add, subtract
-//! and compare, `products` and `lookups`. `specs/Blasting.antt` and `specs/Places.antt` say what a formula means,
+//! variables. `number` has the gate number and `laws` that there is one and that it is light, `children` the numbers
+//! below a node and its weight. The formula in the making, in which equal functions are one literal, is that of
+//! `wb_equal`. The circuits on words stand in `bitwise`, bit by bit, `shifts`, `inputs`, the words of input variables,
+//! `words`, which add, subtract and compare, `products` and `lookups`. `specs/Blasting.antt` and `specs/Places.antt` say what a formula means,
 //! `specs/Number.antt` what the gate number is.
 #![tactic(auto)]
 
@@ -19,7 +19,6 @@ mod blasting;
 mod building;
 mod children;
 mod circuits;
-mod entries;
 mod inputs;
 mod laws;
 mod lookups;
@@ -28,14 +27,13 @@ mod number;
 mod places;
 mod products;
 mod rows;
-mod sharing;
 mod shifts;
 #[cfg(test)]
 mod tests;
 mod words;
 
 pub use blasting::{Blasted, Many, blast, blast_many};
-pub use entries::Entry;
 pub use laws::{gate_numbers_agree, gate_numbers_are_light};
 pub use number::count_gates;
 pub use places::Place;
+pub use wb_equal::Entry;

@@ -6,9 +6,8 @@ ghost use Rattle.wb_term.specs.Terms.{IsKept, table_words};
 ghost use Rattle.wb_blast.specs.Words.{number, AreBelow, IsNumber};
 
 use crate::bitwise::{Operation, combine_words, constant_word};
-use crate::entries::Entry;
-use crate::sharing::Sharing;
 use crate::words::Word;
+use wb_equal::{Entry, Sharing};
 use wb_term::{Graph, Table};
 use wb_word::OutOfMemory;
 

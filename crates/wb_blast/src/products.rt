@@ -8,10 +8,9 @@ ghost use Rattle.wb_equal.specs.Entries.{entry_value, EntryBelow};
 ghost use Rattle.wb_blast.specs.Words.{number, AreBelow, IsNumber};
 
 use crate::bitwise::{Operation, combine_words, constant_word, inverted};
-use crate::entries::Entry;
-use crate::sharing::Sharing;
 use crate::shifts::shifted_left;
 use crate::words::{Word, add_words};
+use wb_equal::{Entry, Sharing};
 use wb_word::OutOfMemory;
 
 /// What 32 bits are, as a low and a high word.

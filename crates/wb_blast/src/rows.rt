@@ -3,9 +3,9 @@ ghost use Rattle.std.specs.Prelude.{◌≡◌, ◌+◌, ◌-◌, ◌<◌, ◌++�
 ghost use Rattle.wb_blast.specs.Meeting.{IsMet};
 ghost use Rattle.wb_blast.specs.Rows.{word_row, bit_row};
 
-use crate::entries::Entry;
 use crate::places::Place;
 use crate::words::Word;
+use wb_equal::Entry;
 use wb_term::{BitId, Scratch, WordId};
 use wb_word::OutOfMemory;
 

@@ -6,8 +6,8 @@ ghost use Rattle.wb_term.specs.Numbers.{bit, cut};
 ghost use Rattle.wb_equal.specs.Entries.{entry_value, EntryBelow};
 ghost use Rattle.wb_blast.specs.Words.{number, AreBelow};
 
-use crate::entries::Entry;
 use crate::words::Word;
+use wb_equal::Entry;
 
 /// The word shifted to the left, filled with zeros.
 pub fn shifted_left(x: &Word, count: usize) -> Word

@@ -4,10 +4,9 @@ ghost use Rattle.wb_term.specs.Terms.{Terms, HasWord, HasBit, IsWordPlaced, IsBi
 
 use super::*;
 use crate::bitwise::constant_word;
-use crate::entries::{negation, xor};
-use crate::sharing::Sharing;
 use crate::words::add_words;
 use std::test::Fail;
+use wb_equal::{Sharing, negation, xor};
 use wb_gate::{Gate, GateFault, Goal, Lit};
 use wb_term::{BitId, BitNode, Graph, Inputs, Scratch, Table, WordId, WordNode};
 use wb_word::{OutOfMemory, Rom};
@@ -68,27 +67,13 @@ fn the_limit_is_the_gate_number(rt: HostRuntime) -> Result<(), Fail> {
 
 #[test]
 fn constants_make_no_gate(rt: HostRuntime) -> Result<(), Fail> {
-    let mut formula = Sharing::new(rt.alloc(), 0, 48);
+    let mut formula = Sharing::new(rt.alloc(), 0, 48)?;
     let x = constant_word(0xFFFE);
     let y = constant_word(0x0123);
     let (sum, carry) = add_words(&mut formula, &x, &y, Entry::T)?;
     assert_eq!(rt; sum, constant_word(0x0122));
     assert_eq!(rt; carry, Entry::T);
     assert_eq!(rt; formula.into_formula().gates(), 0);
-    Ok(())
-}
-
-#[test]
-fn equal_gates_are_one(rt: HostRuntime) -> Result<(), Fail> {
-    let mut formula = Sharing::new(rt.alloc(), 2, 2);
-    let x = Entry::Lit(Lit { var: 0, neg: false });
-    let y = Entry::Lit(Lit { var: 1, neg: false });
-    let apart = xor(&mut formula, negation(x), y)?;
-    assert_eq!(rt; apart, Entry::Lit(Lit { var: 2, neg: true }));
-    // Equal up to order and signs.
-    let again = xor(&mut formula, y, x)?;
-    assert_eq!(rt; again, Entry::Lit(Lit { var: 2, neg: false }));
-    assert_eq!(rt; formula.into_formula().gates(), 1);
     Ok(())
 }
 

@@ -7,8 +7,7 @@ ghost use Rattle.wb_equal.specs.Entries.{entry_value, EntryBelow, IsEntry};
 ghost use Rattle.wb_blast.specs.Words.{number, AreBelow, IsNumber, IsSumOf};
 
 use crate::bitwise::inverted;
-use crate::entries::{Entry, majority, negation, or, xor};
-use crate::sharing::Sharing;
+use wb_equal::{Entry, Sharing, majority, negation, or, xor};
 use wb_word::OutOfMemory;
 
 /// What the bits of a word are, the lowest first.
