@@ -98,7 +98,7 @@ fn ask_small<O: Oracle>(
 {
     gate_numbers_agree();
     let mut scratch = Scratch::for_graph(rt.alloc(), graph)?;
-    if count_gates(graph, bit, &mut scratch) > 1000 {
+    if count_gates(graph, bit, &mut scratch) > 8000 {
         return Err(AskFault::OutOfMemory);
     }
     ask(rt.alloc(), graph, bit, oracle)
@@ -162,15 +162,36 @@ fn impossible_question(rt: &HostRuntime) -> Result<(Graph, BitId), OutOfMemory>
 }
 
 #[test]
-fn control_is_decided_before_data(rt: HostRuntime) -> Result<(), Fail> {
+fn what_no_control_allows_is_refuted_without_the_data(rt: HostRuntime) -> Result<(), Fail> {
     let (graph, both) = impossible_question(&rt)?;
-    let mut short = SolverOracle::new(3);
-    match ask_small(&rt, &graph, both, &mut short) {
+    let mut oracle = SolverOracle::new(0);
+    assert!(rt; matches!(ask_small(&rt, &graph, both, &mut oracle), Ok(Found::Never)));
+    Ok(())
+}
+
+/// The bit that is true where the product of two words has a given upper half.
+fn product_question(rt: &HostRuntime) -> Result<(Graph, BitId), OutOfMemory>
+    ensures { IfOk result (λ made. HasBit made.0 made.1) }
+{
+    let a = Rom::zero(rt.alloc())?;
+    let b = Rom::zero(rt.alloc())?;
+    let mut graph = Graph::new(rt.alloc(), &a, &b)?;
+    let first = graph.word(WordNode::Cell(0))?;
+    let second = graph.word(WordNode::Cell(1))?;
+    let product = graph.word(WordNode::High(first, second))?;
+    let wanted = graph.word(WordNode::Const(0x1234))?;
+    let equal = graph.bit(BitNode::Same(product, wanted))?;
+    Ok((graph, equal))
+}
+
+#[test]
+fn a_search_ends_at_its_limit(rt: HostRuntime) -> Result<(), Fail> {
+    let (graph, equal) = product_question(&rt)?;
+    let mut oracle = SolverOracle::new(3);
+    match ask_small(&rt, &graph, equal, &mut oracle) {
         Err(AskFault::Spent(_, derivation)) => assert_eq!(rt; derivation.steps().len(), 3),
         _ => return Err("not spent".into()),
     }
-    let mut long = SolverOracle::new(256);
-    assert!(rt; matches!(ask_small(&rt, &graph, both, &mut long), Ok(Found::Never)));
     Ok(())
 }
 

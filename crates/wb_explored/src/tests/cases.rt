@@ -69,8 +69,18 @@ const PEEK: &[u32] = &[
     0xC1_0007, 0x00_0080, 0x00_0091, 0x97_C00C, 0x00_0016, 0x97_C014, 0xA0_0004,
 ];
 
+/// Echoes, with a user flag set in its status register.
+const FLAG: &[u32] = &[
+    0xC9_0007, 0x00_0080, 0x97_C008, 0x00_0091, 0x00_0016, 0x97_C014, 0xA0_0004,
+];
+
 /// Sends the sum of the bytes that it was sent.
 const SUM: &[u32] = &[0xC1_0007, 0x00_0026, 0x97_C008, 0x15_8090, 0xA0_0004];
+
+/// The same, two instructions longer.
+const SUM_SLOW: &[u32] = &[
+    0xC1_0007, 0x00_0026, 0x97_C008, 0x00_0000, 0x15_8090, 0x00_0000, 0xA0_0004,
+];
 
 /// Sends twice the product of two words, in two words.
 const PRODUCT: &[u32] = &[
@@ -78,9 +88,20 @@ const PRODUCT: &[u32] = &[
     0x97_C020, 0xC0_0001, 0x31_0000, 0x00_0016, 0x97_C030, 0xA0_0000,
 ];
 
+/// The same, through the other accumulator.
+const PRODUCT_B: &[u32] = &[
+    0x00_0080, 0x97_C004, 0x00_008A, 0x97_C00C, 0x00_009D, 0xC0_0002, 0x21_8000, 0x00_0026,
+    0x97_C020, 0xC0_0002, 0x31_8000, 0x00_0026, 0x97_C030, 0xA0_0000,
+];
+
 /// Waits in a loop of two words.
 const LOOP: &[u32] = &[
     0xC1_0007, 0x00_0080, 0x97_8010, 0xA0_0008, 0x00_0091, 0x00_0016, 0x97_C018, 0xA0_0004,
+];
+
+/// Takes as long as that loop, and waits at its poll.
+const LOOP_SLOW: &[u32] = &[
+    0xC1_0007, 0x00_0080, 0x00_0000, 0x97_C008, 0x00_0091, 0x00_0016, 0x97_C018, 0xA0_0004,
 ];
 
 /// Waits in a loop of eight words.
@@ -98,8 +119,14 @@ const NINE: &[u32] = &[
 /// Sends the first word of the RAM.
 const POWER_A: &[u32] = &[0xC1_0007, 0x00_00F6, 0x97_C008, 0xA0_0004];
 
+/// Sends a register, which is zero.
+const POWER_B: &[u32] = &[0xC1_0007, 0x00_0006, 0x97_C008, 0xA0_0004];
+
 /// Clears the first word of the RAM, and sends it.
 const POWER_C: &[u32] = &[0xC1_0007, 0x00_000F, 0x00_00F6, 0x97_C00C, 0xA0_0004];
+
+/// Clears the first word of the RAM, and sends a register, which is zero.
+const POWER_D: &[u32] = &[0xC1_0007, 0x00_000F, 0x00_0006, 0x97_C00C, 0xA0_0004];
 
 /// Goes round as often as the low two bits of a byte say.
 const TURNS: &[u32] = &[
@@ -180,7 +207,7 @@ const ODDS: &[u32] = &[
 ];
 
 /// Programs without a branch on what is written.
-pub(super) const STRAIGHT: [Case; 11] = [
+pub(super) const STRAIGHT: [Case; 17] = [
     Case {
         words: ECHO,
         side: Side::A,
@@ -274,6 +301,60 @@ pub(super) const STRAIGHT: [Case; 11] = [
     Case {
         words: POWER_C,
         side: Side::A,
+        pace: 4,
+        power: Power::Any,
+        kinds: SHORT,
+        cells: &[0, 0x8000],
+        bytes: Bytes::These(&[0x00, 0x5A, 0xFF]),
+    },
+    Case {
+        words: FLAG,
+        side: Side::B,
+        pace: 4,
+        power: Power::Zero,
+        kinds: SHORT,
+        cells: &[0],
+        bytes: Bytes::These(&[0x00, 0x5A, 0xFF]),
+    },
+    Case {
+        words: SUM_SLOW,
+        side: Side::A,
+        pace: 6,
+        power: Power::Zero,
+        kinds: SHORT,
+        cells: &[0],
+        bytes: Bytes::These(&[0x00, 0x5A, 0xFF]),
+    },
+    Case {
+        words: PRODUCT_B,
+        side: Side::B,
+        pace: 6,
+        power: Power::Zero,
+        kinds: SHORT,
+        cells: &[0],
+        bytes: Bytes::These(&[0x00, 0x5A, 0xFF]),
+    },
+    Case {
+        words: LOOP_SLOW,
+        side: Side::B,
+        pace: 5,
+        power: Power::Zero,
+        kinds: SHORT,
+        cells: &[0],
+        bytes: Bytes::These(&[0x00, 0x5A, 0xFF]),
+    },
+    Case {
+        words: POWER_B,
+        side: Side::B,
+        pace: 4,
+        power: Power::Any,
+        kinds: SHORT,
+        cells: &[0, 0xFFFF],
+        bytes: Bytes::These(&[0x00, 0x5A, 0xFF]),
+    },
+    Case {
+        words: POWER_D,
+        side: Side::B,
         pace: 4,
         power: Power::Any,
         kinds: SHORT,
@@ -540,11 +621,11 @@ pub(super) const CHECKED: [Row; 22] = [
     (HANG, &[W], Answers::Search(0), Comes::Layer),
     (THREES, &[W], Answers::Search(0), Comes::Spent),
     (THREES, &[W], Answers::Search(256), Comes::Layer),
-    (ODDS, &[W], Answers::Search(0), Comes::Spent),
+    (ODDS, &[W], Answers::Search(0), Comes::Layer),
     (HANG, &[W], Answers::Search(256), Comes::Layer),
     (HANG, &[R], Answers::Search(0), Comes::Layer),
-    (ODDS, &[W], Answers::Search(3), Comes::Spent),
-    (ODDS, &[W], Answers::Search(256), Comes::Layer),
+    (THREES, &[W], Answers::Lies(Lie::Spent), Comes::BadAnswer),
+    (THREES, &[W], Answers::Lies(Lie::Falsehoods), Comes::BadAnswer),
     (HANG, &[W], Answers::Lies(Lie::Falsehoods), Comes::BadAnswer),
     (HANG, &[W], Answers::Lies(Lie::NoValues), Comes::BadAnswer),
     (HANG, &[W], Answers::Lies(Lie::NoStep), Comes::BadAnswer),
