@@ -36,12 +36,18 @@ pub keeps : (b : Board) (f : Forest) → IsBoard b → Grown b.forest f → Keep
 keeps b f is grown = record {
   grown = grown;
   variables = refl;
-  right = λ v right. record { at = λ x k at. record {
-    whole = says_grown b.forest f v (v x) k.whole grown (is.there x k at).whole (right.at x k at).whole;
-    taken = says_grown b.forest f v (v x) k.taken grown (is.there x k at).taken (right.at x k at).taken } };
-  back = λ v right. record { at = λ x k at. record {
-    whole = said_before b.forest f v (v x) k.whole grown (is.there x k at).whole (right.at x k at).whole;
-    taken = said_before b.forest f v (v x) k.taken grown (is.there x k at).taken (right.at x k at).taken } };
+  right = λ v right. record {
+    at = λ x k at. record {
+      whole = says_grown b.forest f v (v x) k.whole grown (is.there x k at).whole (right.at x k at).whole;
+      taken = says_grown b.forest f v (v x) k.taken grown (is.there x k at).taken (right.at x k at).taken;
+    };
+  };
+  back = λ v right. record {
+    at = λ x k at. record {
+      whole = said_before b.forest f v (v x) k.whole grown (is.there x k at).whole (right.at x k at).whole;
+      taken = said_before b.forest f v (v x) k.taken grown (is.there x k at).taken (right.at x k at).taken;
+    };
+  };
 }
 
 function_of : (b : Board) (m : Assignment → Bool) (o : Option Function) → IfSome o (HasFunction b.forest) →
@@ -106,14 +112,14 @@ pub entered : (c d : Circuit) (before here after : Board) (gate : Gate) (lit : L
     ((v : Assignment) → AreRight v here → IfSome o (Says v here.forest (v lit.var)) → AreRight v after) → AreOf d after
 entered c d before here after gate lit o are keeps is lit_is means extends few right = record {
   few = few (variables d) means.there (
-    let kept : length here.variables ≡ length before.variables = ap length keeps.variables in
-    let there = are.few in
-    let longer = extends.longer in
-    let inputs = extends.same_inputs in
-    omega (arith, kept, there, longer, inputs));
+      let kept : length here.variables ≡ length before.variables = ap length keeps.variables in
+      let there = are.few in
+      let longer = extends.longer in
+      let inputs = extends.same_inputs in
+      omega (arith, kept, there, longer, inputs));
   right = λ v obeys.
-    let there = keeps.right v (are.right v (extends.obeys v obeys)) in
-    let positive : lit.neg ≡ false = ap (λ (l : Lit). l.neg) lit_is in
-    let same : v lit.var ≡ gate_value v gate = sym (ap (λ n. if n then not (v lit.var) else v lit.var) positive) ∙ means.value v obeys in
-    right v there (says_meaning v here (λ v. gate_value v gate) lit.var o is there same);
+      let there = keeps.right v (are.right v (extends.obeys v obeys)) in
+      let positive : lit.neg ≡ false = ap (λ (l : Lit). l.neg) lit_is in
+      let same : v lit.var ≡ gate_value v gate = sym (ap (λ n. if n then not (v lit.var) else v lit.var) positive) ∙ means.value v obeys in
+      right v there (says_meaning v here (λ v. gate_value v gate) lit.var o is there same);
 }

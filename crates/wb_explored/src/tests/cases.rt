@@ -625,7 +625,12 @@ pub(super) const CHECKED: [Row; 22] = [
     (HANG, &[W], Answers::Search(256), Comes::Layer),
     (HANG, &[R], Answers::Search(0), Comes::Layer),
     (THREES, &[W], Answers::Lies(Lie::Spent), Comes::BadAnswer),
-    (THREES, &[W], Answers::Lies(Lie::Falsehoods), Comes::BadAnswer),
+    (
+        THREES,
+        &[W],
+        Answers::Lies(Lie::Falsehoods),
+        Comes::BadAnswer,
+    ),
     (HANG, &[W], Answers::Lies(Lie::Falsehoods), Comes::BadAnswer),
     (HANG, &[W], Answers::Lies(Lie::NoValues), Comes::BadAnswer),
     (HANG, &[W], Answers::Lies(Lie::NoStep), Comes::BadAnswer),
