@@ -58,17 +58,18 @@ class Bench:
         script = self.folder / "script"
         script.write_text("".join(f"WAIT 8191\n{access}\n" for access in accesses))
         text = subprocess.run([self.program, "run", name, script], cwd=self.folder, capture_output=True, text=True).stdout
-        return [line for line in text.splitlines() if line[0] not in "WT" or line.startswith("W ")]
+        return [line for line in text.splitlines() if not line.startswith("WAIT")]
 
     def try_dialogues(self, first, second, shape, pick):
-        """Holds random dialogues on both images, with the status before each transfer."""
+        """Holds random dialogues on both images, with the status before and after each transfer."""
         for _ in range(DIALOGUES):
-            accesses = []
+            accesses = ["S"]
             for letter in shape:
                 byte = pick.randrange(pick.choice([16, 256]))  # many are commands
-                accesses += ["S", "R" if letter == "R" else f"W {byte:02X}"]
-            if self.replies(first, accesses) != self.replies(second, accesses):
-                self.faults.append(f"{first} and {second} differ: {' / '.join(accesses)}")
+                accesses += ["R" if letter == "R" else f"W {byte:02X}", "S"]
+            answer = self.replies(first, accesses)
+            if answer[-1] != "DONE" or self.replies(second, accesses) != answer:
+                self.faults.append(f"{first} and {second} differ, or fall silent: {' / '.join(accesses)}")
                 return
 
     def replay(self, first, second, lines):
@@ -97,16 +98,16 @@ class Bench:
         what, first, second, pace, shape, options, wanted, most = case
         if wanted == "EQUAL":
             self.try_dialogues(first, second, shape, pick)
-        lines, seconds, size = self.compare([first, second, str(len(shape)), str(pace), f"shape={shape}", *options.split()])
-        verdict = lines[0] if lines else "NONE"
+        words = [first, second, str(len(shape)), str(pace), f"shape={shape}", *options.split()]
+        lines, seconds, size = self.compare(words)
+        verdict = lines[0] if lines else "GIVEN UP"
         good = verdict == f"{wanted} {len(shape)} {pace}" and (wanted == "DIFFERENT" or lines[1:] == ["PACE KEPT"])
         if verdict.startswith("DIFFERENT"):
             self.replay(first, second, lines[1:])
         if not good:
-            self.faults.append(f"{first} and {second}, {shape}: {' / '.join(lines[:8])}")
+            self.faults.append(f"{what}, {' '.join(words)}: {' / '.join(lines) or verdict}")
         mark = "WRONG" if not good else "SLOW" if seconds > most else ""
-        print(f"{what:30} {first:10} {second:12} {shape:14} {wanted:9}  {verdict:24} {seconds:7.2f} {most:5} {size:6.0f}  {mark}",
-            flush=True)
+        print(f"{what:30} {wanted:9}  {verdict:24} {seconds:7.2f} {most:5} {size:6.0f}  {' '.join(words)}  {mark}", flush=True)
 
 
 def main():
@@ -118,7 +119,7 @@ def main():
         bench = Bench(program, pathlib.Path(folder))
         for source in sorted(SOURCES.glob("*.asm")):
             bench.assemble(source.stem)
-        print(f"{'':30} {'A':10} {'B':12} {'shape':14} {'wanted':9}  {'got':24} {'seconds':>7} {'most':>5} {'MiB':>6}")
+        print(f"{'':30} {'wanted':9}  {'got':24} {'seconds':>7} {'most':>5} {'MiB':>6}")
         for case in CASES:
             bench.judge(case, pick)
     for fault in bench.faults:

@@ -1,5 +1,5 @@
-; A small coprocessor that answers as the one of coproc_b.asm does, but for a fault: where sums and differences are to be
-; held at their bounds, the lower bound is 0x8001 and should be 0x8000. It shows only after command 7.
+; A small coprocessor that answers as the one of coproc_b.asm does, but for a fault: where sums and differences are held
+; at their bounds, the lower bound is 0x8001 and should be 0x8000. It shows only after command 7.
 
       .equ mode,0x00
       .equ past,0x00F8          ; the bits of a byte past the commands

@@ -1,5 +1,5 @@
-; Adds and corrects as stale_b.asm does, but the first byte of a sum is kept in the cell of the correction. So the second
-; command adds what the last sum left there.
+; Adds and corrects as stale_b.asm does, but the first byte of a sum is kept in the cell of the correction. So the
+; second command adds what the last sum left there.
 
       .equ first,0x04           ; the fault
       .equ correction,0x04

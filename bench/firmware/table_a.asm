@@ -1,9 +1,9 @@
 ; Looks up a sine: the host writes an angle, where 65536 is a quarter of a turn, and reads its sine, where 32767 is 1.
 ;
-; All transfers have 16 bits. The table has 257 words, one for each 256th of a quarter and one for its end. The high byte
-; of the angle chooses two words that stand next to each other, and the low byte says how far the sine is between them.
-; Here the table stands at the front of the data, and RP is lowered from the second word to the first; in table_b.asm it
-; stands further on, each word is chosen anew, and the factors have changed places.
+; All transfers have 16 bits. The table has 257 words, one for each 256th of a quarter and one for its end. The high
+; byte of the angle chooses two words that stand next to each other, and the low byte says how far the sine is between
+; them. Here the table stands at the front of the data, and RP is lowered from the second word to the first. In
+; table_b.asm it stands further on, each of the two words is addressed by a sum, and the factors have changed places.
 
 again: op mov non,dr            ; asks for the angle
 ready: jrqm ready

@@ -1,4 +1,4 @@
-; A coprocessor for small games. The host writes a command, a byte of which the low four bits count, and what the command
+; A coprocessor for small games. The host writes a command, which is the low four bits of a byte, and what the command
 ; takes, and reads what it answers:
 ;
 ;   0  answers its version, 0x7725
