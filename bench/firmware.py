@@ -27,14 +27,14 @@ CASES = [
     ("stale cell, one command", "stale_a", "stale_fault", 20, "WWWR", "", "EQUAL", 1),
     ("stale cell, two commands", "stale_a", "stale_fault", 20, "WWWRWWR", "", "DIFFERENT", 1),
     ("dispatch", "dispatch_a", "dispatch_b", 50, "WWWWWRR", "", "EQUAL", 0.5),
-    ("dispatch, two commands", "dispatch_a", "dispatch_b", 50, "WWWWWRRWWWWWRR", "points=8192", "EQUAL", 0.5),
+    ("dispatch, two commands", "dispatch_a", "dispatch_b", 50, "WWWWWRRWWWWWRR", "", "EQUAL", 0.5),
     ("100 words: two words taken", "coproc_a", "coproc_b", 100, "WWWWWRR", "", "EQUAL", 5),
     ("100 words: shift", "coproc_a", "coproc_b", 100, "WWWWRR", "", "EQUAL", 5),
     ("100 words: table, recall", "coproc_a", "coproc_b", 100, "WWRR", "", "EQUAL", 5),
-    ("100 words: store, recall", "coproc_a", "coproc_b", 100, "WWWWWWRR", "points=8192", "EQUAL", 5),
-    ("100 words: mode, two words", "coproc_a", "coproc_b", 100, "WWWWWWWRR", "points=8192", "EQUAL", 5),
+    ("100 words: store, recall", "coproc_a", "coproc_b", 100, "WWWWWWRR", "", "EQUAL", 5),
+    ("100 words: mode, two words", "coproc_a", "coproc_b", 100, "WWWWWWWRR", "", "EQUAL", 5),
     ("100 words, fault: two words", "coproc_a", "coproc_fault", 100, "WWWWWRR", "", "EQUAL", 5),
-    ("100 words, fault: mode first", "coproc_a", "coproc_fault", 100, "WWWWWWWRR", "points=8192", "DIFFERENT", 5),
+    ("100 words, fault: mode first", "coproc_a", "coproc_fault", 100, "WWWWWWWRR", "", "DIFFERENT", 5),
     ("200 words: one word, one back", "whole_a", "whole_b", 200, "WWWRR", "points=8192", "EQUAL", 5),
     ("200 words: one word, two back", "whole_a", "whole_b", 200, "WWWRRRR", "points=8192", "EQUAL", 5),
     ("200 words: two words, one back", "whole_a", "whole_b", 200, "WWWWWRR", "points=8192", "EQUAL", 5),
@@ -107,7 +107,7 @@ class Bench:
         if not good:
             self.faults.append(f"{what}, {' '.join(words)}: {' / '.join(lines) or verdict}")
         mark = "WRONG" if not good else "SLOW" if seconds > most else ""
-        print(f"{what:30} {wanted:9}  {verdict:24} {seconds:7.2f} {most:5} {size:6.0f}  {' '.join(words)}  {mark}", flush=True)
+        print(f"{what:30} {wanted:9}  {verdict:24} {seconds:7.2f} {most:5} {size:6.0f}  {mark:5}  {' '.join(words)}", flush=True)
 
 
 def main():
