@@ -2,8 +2,8 @@
 """Compares the firmware of bench/firmware/, each written twice, and prints for each comparison the verdict that is
 wanted and the one that came, seconds and the most seconds wanted, and memory. Before it compares, it runs random
 dialogues of the shape on both images by `n7725 run`: where EQUAL is wanted, none may tell them apart. The dialogue of a
-DIFFERENT is run on both images too, and must give what was printed. Ends with status 1 where a verdict or a reply is
-wrong; a slow comparison is only marked. Usage: firmware.py [PROGRAM]. Wants a built program."""
+DIFFERENT is run on both images too, and must give what was printed. Ends with status 1 where a verdict is another or
+left open, or a reply is wrong; a slow comparison is only marked. Usage: firmware.py [PROGRAM]. Wants a built program."""
 import os, pathlib, random, resource, subprocess, sys, tempfile, time
 
 TOP = pathlib.Path(__file__).resolve().parent.parent
@@ -42,7 +42,7 @@ CASES = [
 
 
 class Bench:
-    """Images in a folder, and what was wrong of them."""
+    """Images in a folder, and the faults that were found."""
 
     def __init__(self, program, folder):
         self.program, self.folder, self.faults = program, folder, []
@@ -106,7 +106,8 @@ class Bench:
             self.replay(first, second, lines[1:])
         if not good:
             self.faults.append(f"{what}, {' '.join(words)}: {' / '.join(lines) or verdict}")
-        mark = "WRONG" if not good else "SLOW" if seconds > most else ""
+        left_open = verdict.startswith(("UNKNOWN", "GIVEN UP"))
+        mark = "OPEN" if left_open else "WRONG" if not good else "SLOW" if seconds > most else ""
         print(f"{what:30} {wanted:9}  {verdict:24} {seconds:7.2f} {most:5} {size:6.0f}  {mark:5}  {' '.join(words)}", flush=True)
 
 
