@@ -26,7 +26,7 @@ CASES = [
     ("cells elsewhere", "stale_a", "stale_b", 20, "WWWRWWR", "", "EQUAL", 1),
     ("stale cell, one command", "stale_a", "stale_fault", 20, "WWWR", "", "EQUAL", 1),
     ("stale cell, two commands", "stale_a", "stale_fault", 20, "WWWRWWR", "", "DIFFERENT", 1),
-    ("dispatch", "dispatch_a", "dispatch_b", 50, "WWWWWRR", "", "EQUAL", 0.5),
+    ("dispatch, one command", "dispatch_a", "dispatch_b", 50, "WWWWWRR", "", "EQUAL", 0.5),
     ("dispatch, two commands", "dispatch_a", "dispatch_b", 50, "WWWWWRRWWWWWRR", "", "EQUAL", 0.5),
     ("100 words: two words taken", "coproc_a", "coproc_b", 100, "WWWWWRR", "", "EQUAL", 5),
     ("100 words: shift", "coproc_a", "coproc_b", 100, "WWWWRR", "", "EQUAL", 5),
@@ -84,14 +84,14 @@ class Bench:
             self.faults.append(f"the last line shows no difference: {' / '.join(lines)}")
 
     def compare(self, words):
-        """The lines, the seconds and the mebibytes of one comparison; no lines where it was given up."""
+        """The lines, the status, the seconds and the mebibytes of one comparison; no lines where it was given up."""
         begun = time.time()
         child = subprocess.Popen([self.program, "compare", *words], cwd=self.folder, stdout=subprocess.PIPE, text=True,
             preexec_fn=lambda: resource.setrlimit(resource.RLIMIT_CPU, (LIMIT, LIMIT)))
         lines = child.stdout.read().splitlines()
         _, status, used = os.wait4(child.pid, 0)
         child.returncode = os.waitstatus_to_exitcode(status)
-        return lines, time.time() - begun, used.ru_maxrss / 1024
+        return lines, child.returncode, time.time() - begun, used.ru_maxrss / 1024
 
     def judge(self, case, pick):
         """Tries, compares and prints one case."""
@@ -99,9 +99,10 @@ class Bench:
         if wanted == "EQUAL":
             self.try_dialogues(first, second, shape, pick)
         words = [first, second, str(len(shape)), str(pace), f"shape={shape}", *options.split()]
-        lines, seconds, size = self.compare(words)
+        lines, status, seconds, size = self.compare(words)
         verdict = lines[0] if lines else "GIVEN UP"
-        good = verdict == f"{wanted} {len(shape)} {pace}" and (wanted == "DIFFERENT" or lines[1:] == ["PACE KEPT"])
+        good = verdict == f"{wanted} {len(shape)} {pace}"
+        good &= status == 1 if wanted == "DIFFERENT" else status == 0 and lines[1:] == ["PACE KEPT"]
         if verdict.startswith("DIFFERENT"):
             self.replay(first, second, lines[1:])
         if not good:
