@@ -16,22 +16,41 @@ use wb_gate::{Gate, Lit};
 use wb_word::OutOfMemory;
 
 /// How many nodes the diagrams of a formula may have.
-const NODES: u32 = 1 << 20;
+const NODES: u32 = 1 << 22;
 
 /// How many choices between diagrams are kept.
 const PLACES: usize = 1 << 14;
 
 /// How many steps the diagrams of a formula may take.
-const STEPS: u32 = 400_000;
-
-/// How many steps the diagram of a gate may take.
-const GATE_STEPS: u32 = 4_000;
+const STEPS: u32 = 2_000_000;
 
 /// A diagram that took no more steps is small, which saves counting its nodes.
 const FEW_STEPS: u32 = 16;
 
-/// A diagram with fewer nodes is small.
-const SMALL: u32 = 1_000;
+/// What the diagram of a gate may take.
+#[derive(Clone, Copy, PartialEq, Eq, Debug)]
+pub struct Room {
+    /// How many steps it may take.
+    steps: u32,
+    /// With fewer nodes it stands for its variable in the diagrams of later gates.
+    nodes: u32,
+}
+
+impl Room {
+    /// Sums of unknown words and their carries grow fast, and products of them without end, so they get less.
+    pub fn of(gate: Gate) -> Self {
+        match gate {
+            Gate::And(..) | Gate::Mux(..) => Room {
+                steps: 20_000,
+                nodes: 10_000,
+            },
+            Gate::Xor(..) | Gate::Maj(..) => Room {
+                steps: 1_000,
+                nodes: 300,
+            },
+        }
+    }
+}
 
 /// A function and its negation.
 #[derive(Clone, Copy, PartialEq, Eq, Debug)]
@@ -41,6 +60,13 @@ pub struct Function {
 }
 
 impl Function {
+    /// The diagram of the function, or that of its negation.
+    fn side(&self, negated: bool) -> Diagram
+        ensures { result ≡ (if negated then self.now.no else self.now.yes) }
+    {
+        if negated { self.no } else { self.yes }
+    }
+
     /// The one of both diagrams by which the function is looked up.
     fn key(&self) -> Diagram {
         if self.yes.number() < self.no.number() {
@@ -74,6 +100,8 @@ pub struct Functions {
     gate_steps: u32,
     /// How many steps the gate took.
     spent: u32,
+    /// With fewer nodes the gate's diagram stands for its variable.
+    nodes: u32,
 }
 
 impl Model for Functions {
@@ -102,6 +130,7 @@ impl Functions {
             steps: STEPS,
             gate_steps: 0,
             spent: 0,
+            nodes: 0,
         };
         for input in 0..inputs {
             functions.enter(input, None)?;
@@ -153,11 +182,7 @@ impl Functions {
         ensures { IfSome result (IsDiagramOf self.now (λ v. lit_value v lit)) }
     {
         let taken = self.taken(lit.var)?;
-        if lit.neg {
-            Some(taken.no)
-        } else {
-            Some(taken.yes)
-        }
+        Some(taken.side(lit.neg))
     }
 
     fn leaf(&self, constant: bool) -> Diagram
@@ -279,8 +304,10 @@ impl Functions {
         ensures value { IfSome result (IsFunctionOf self.new (λ v. gate_value v gate)) }
         ensures keeps { Keeps self.old self.new }
     {
-        let granted = self.steps.min(GATE_STEPS);
+        let room = Room::of(gate);
+        let granted = self.steps.min(room.steps);
         self.gate_steps = granted;
+        self.nodes = room.nodes;
         let function = self.both_sides(gate);
         self.spent = granted.saturating_sub(self.gate_steps);
         self.steps = self.steps.saturating_sub(self.spent);
@@ -354,10 +381,10 @@ impl Functions {
         if self.spent <= FEW_STEPS {
             return true;
         }
-        let Ok(size) = self.diagrams.size(self.alloc, d, SMALL) else {
+        let Ok(size) = self.diagrams.size(self.alloc, d, self.nodes) else {
             return false;
         };
-        size < SMALL
+        size < self.nodes
     }
 
     /// What is to be known of a variable, where its function was found or not.
