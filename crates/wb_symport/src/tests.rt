@@ -3,6 +3,7 @@ ghost use Rattle.wb_term.specs.Terms.{Terms, HasWord};
 ghost use Rattle.wb_symstep.specs.State.{IsSymState};
 ghost use Rattle.wb_symstep.specs.Stepped.{IsStepped};
 
+mod programs;
 mod worked;
 
 use super::*;

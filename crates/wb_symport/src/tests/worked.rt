@@ -1,13 +1,15 @@
-//! Worked programs from power-up to their second request. After each instruction and each write the symbolic chip
-//! has the parts of the chip.
+//! Worked programs from power-up to their second request, and a read there. After each instruction and each transfer
+//! the symbolic chip has the registers of the chip. At each request it has the RAM of the chip too, where all that was
+//! stored still stands.
 ghost use Rattle.std.specs.Prelude.{◌≡◌, ◌≤◌, [], IfOk};
 ghost use Rattle.wb_term.specs.Terms.{HasBit, HasWord};
 ghost use Rattle.wb_fold.specs.Flags.{HasFlags};
 ghost use Rattle.wb_symstep.specs.State.{IsSymState};
 ghost use Rattle.wb_symstep.specs.Stepped.{IsStepped};
 
+use super::programs::{Held, PROGRAMS, Program, ROUNDS};
 use super::{image, value_of};
-use crate::{OutOfMemory, Stepped, SymState, sym_write};
+use crate::{OutOfMemory, Stepped, SymState, sym_read, sym_write};
 use std::alloc::Global;
 use std::process::Abort;
 use std::test::Fail;
@@ -20,23 +22,11 @@ use wb_symstep::sym_step;
 use wb_term::{BitId, Graph, Inputs, Scratch};
 use wb_word::Side;
 
-/// Sends back each byte that it is sent.
-const ECHO: [u32; 7] = [
-    0xC1_0007, 0x00_0080, 0x97_C008, 0x00_0091, 0x00_0016, 0x97_C014, 0xA0_0004,
-];
+/// The most instructions to a request: once round the program memory.
+const MOST: u16 = 2048;
 
-/// Sends back each word that it is sent, in two bytes.
-const WIDE: [u32; 6] = [
-    0x00_0080, 0x97_C004, 0x00_0091, 0x00_0016, 0x97_C010, 0xA0_0000,
-];
-
-/// Sends back each byte that it is sent, but C4 for C3.
-const CHANGED: [u32; 10] = [
-    0xC1_0007, 0x00_0080, 0x97_C008, 0x00_0091, 0xC0_30C2, 0x13_8010, 0x91_8020, 0x09_0000,
-    0x00_0016, 0x97_C024,
-];
-
-/// The first two bytes, and DR at the second request of `ECHO`, `WIDE` and `CHANGED`.
+/// The first two bytes; then DR where it holds the first, where it holds both, and where it holds the first but C4
+/// for C3.
 type Row = (u8, u8, u16, u16, u16);
 
 const ROWS: [Row; 16] = [
@@ -172,7 +162,7 @@ fn chosen(
     }
 }
 
-/// This state, which has each part of the machine.
+/// The state that is chosen, which has the registers of the machine.
 fn agreed(
     rt: &impl Abort,
     alloc: Global,
@@ -186,7 +176,6 @@ fn agreed(
 {
     let state = chosen(alloc, graph, stepped, inputs)?;
     expect_registers(rt, alloc, graph, &state, machine, inputs)?;
-    expect_ram(rt, alloc, graph, &state, machine, inputs)?;
     Ok(state)
 }
 
@@ -235,7 +224,28 @@ fn write(
     agreed(rt, alloc, graph, stepped, &chip.machine, inputs)
 }
 
-/// Instructions until a request stands, this many at most.
+/// A read of both machines: the byte that both give.
+fn read(
+    rt: &impl Abort,
+    graph: &mut Graph,
+    alloc: Global,
+    image: &Image,
+    state: &SymState,
+    chip: &mut Chip,
+    inputs: &Inputs,
+) -> Result<u16, OutOfMemory>
+    requires state { IsSymState graph.old state.now }
+{
+    assert!(rt; graph.len() < 1 << 20);
+    let reply = chip.apply(image, Event::Host(Access::Read));
+    let (byte, stepped) = sym_read(graph, state)?;
+    let _state = agreed(rt, alloc, graph, stepped, &chip.machine, inputs)?;
+    let byte = value_of(alloc, graph, byte, inputs)?;
+    assert_eq!(rt; reply.map(u16::from), Some(byte));
+    Ok(byte)
+}
+
+/// Instructions until a request stands, where the RAM of both is one.
 fn to_request(
     rt: &impl Abort,
     graph: &mut Graph,
@@ -244,18 +254,22 @@ fn to_request(
     state: SymState,
     chip: &mut Chip,
     inputs: &Inputs,
-    most: u8,
 ) -> Result<SymState, OutOfMemory>
     requires state { IsSymState graph.old state }
     requires words { graph.old.tables.first ≡ image.now.drom }
     ensures state { IfOk result (IsSymState graph.new) }
     ensures words { graph.new.tables.first ≡ image.now.drom }
 {
-    if state.rqm || most == 0 {
-        return Ok(state);
+    let mut state = state;
+    for _ in 0..MOST {
+        if state.rqm {
+            break;
+        }
+        state = step(rt, graph, alloc, image, &state, chip, inputs)?;
     }
-    let next = step(rt, graph, alloc, image, &state, chip, inputs)?;
-    to_request(rt, graph, alloc, image, next, chip, inputs, most - 1)
+    assert!(rt; state.rqm, "no request");
+    expect_ram(rt, alloc, graph, &state, &chip.machine, inputs)?;
+    Ok(state)
 }
 
 /// Writes the bytes from a place on until no request stands, this many at most.
@@ -282,34 +296,36 @@ fn answered(
     answered(rt, graph, alloc, image, next, chip, inputs, most - 1)
 }
 
-/// From power-up to the second request: PC, DR, and the state.
+/// From power-up to the second request: PC, DR, and the byte that is read there.
 fn run(
     rt: &impl Abort,
     graph: &mut Graph,
     alloc: Global,
     image: &Image,
     inputs: &Inputs,
-) -> Result<(u16, u16), OutOfMemory>
+) -> Result<(u16, u16, u16), OutOfMemory>
     requires empty { graph.old.nodes ≡ [] }
     requires words { graph.old.tables.first ≡ image.now.drom }
 {
     let mut chip = Chip::reset();
     let state = SymState::reset(graph, alloc)?;
-    let state = to_request(rt, graph, alloc, image, state, &mut chip, inputs, 4)?;
+    let state = to_request(rt, graph, alloc, image, state, &mut chip, inputs)?;
     let state = answered(rt, graph, alloc, image, state, &mut chip, inputs, 2)?;
-    let state = to_request(rt, graph, alloc, image, state, &mut chip, inputs, 8)?;
-    assert!(rt; state.rqm);
-    Ok((state.pc, value_of(alloc, graph, state.dr, inputs)?))
+    assert!(rt; !state.rqm, "the first request still stands");
+    let state = to_request(rt, graph, alloc, image, state, &mut chip, inputs)?;
+    let dr = value_of(alloc, graph, state.dr, inputs)?;
+    let byte = read(rt, graph, alloc, image, &state, &mut chip, inputs)?;
+    Ok((state.pc, dr, byte))
 }
 
-/// PC and DR at the second request of a program that is sent these bytes.
+/// PC, DR and the byte read at the second request of a program that is sent these bytes.
 fn sent(
     rt: &impl Abort,
     alloc: Global,
     words: &[u32],
     first: u8,
     second: u8,
-) -> Result<(u16, u16), Fail> {
+) -> Result<(u16, u16, u16), Fail> {
     let image = image(alloc, words)?;
     let mut graph = Graph::new(alloc, &image.drom, &image.drom)?;
     let mut bytes = [0; 16];
@@ -319,16 +335,51 @@ fn sent(
     Ok(run(rt, &mut graph, alloc, &image, &inputs)?)
 }
 
-fn expect_rows(rt: &impl Abort, alloc: Global, rows: &[Row]) -> Result<(), Fail> {
-    for (first, second, echo, wide, changed) in rows {
-        assert_eq!(rt; sent(rt, alloc, &ECHO, *first, *second)?, (5, *echo));
-        assert_eq!(rt; sent(rt, alloc, &WIDE, *first, *second)?, (4, *wide));
-        assert_eq!(rt; sent(rt, alloc, &CHANGED, *first, *second)?, (9, *changed));
+/// What DR has in a row.
+fn held_in(row: &Row, held: Held) -> u16 {
+    let (_, _, byte, word, changed) = *row;
+    match held {
+        Held::Byte => byte,
+        Held::Changed => changed,
+        Held::Word => word,
+        Held::Zero => 0,
+    }
+}
+
+/// At the second request of a program, after the bytes of each row: PC, DR, and the low half of DR, which is read.
+fn expect_rows(
+    rt: &impl Abort,
+    alloc: Global,
+    program: &Program,
+    place: usize,
+) -> Result<(), Fail> {
+    let (words, pc, held) = *program;
+    for row in &ROWS {
+        let (first, second) = (row.0, row.1);
+        let dr = held_in(row, held);
+        let seen = sent(rt, alloc, words, first, second)?;
+        assert_eq!(rt;
+            seen,
+            (pc, dr, dr & 0xFF),
+            "program {place} after {first}, {second}"
+        );
+    }
+    Ok(())
+}
+
+fn expect_programs(rt: &impl Abort, alloc: Global, programs: &[Program]) -> Result<(), Fail> {
+    for (place, program) in programs.iter().enumerate() {
+        expect_rows(rt, alloc, program, place)?;
     }
     Ok(())
 }
 
 #[test]
 fn worked_programs_come_to_their_second_request(rt: HostRuntime) -> Result<(), Fail> {
-    expect_rows(&rt, rt.alloc(), &ROWS)
+    expect_programs(&rt, rt.alloc(), &PROGRAMS)
+}
+
+#[test]
+fn programs_go_round_to_their_second_request(rt: HostRuntime) -> Result<(), Fail> {
+    expect_programs(&rt, rt.alloc(), &ROUNDS)
 }
