@@ -4,7 +4,7 @@ ghost use Rattle.wb_gate.specs.Circuit.{NamesBelow, variables, variable, gate_va
 ghost use Rattle.wb_gate.specs.Growth.{Extends, IsLit};
 
 use crate::entries::Entry;
-use crate::functions::Functions;
+use crate::functions::{Functions, Width};
 use indexmap::IndexMap;
 use std::alloc::Global;
 use std::marker::Model;
@@ -50,18 +50,26 @@ impl Sharing {
     ghost use Rattle.wb_gate.specs.declared.gates.Goal.{Goal};
     ghost use Rattle.wb_equal.specs.Entries.{IsEntry};
 
-    /// A formula without gates.
-    pub fn new(alloc: Global, inputs: u32, limit: u64) -> Result<Sharing, OutOfMemory>
-        requires few_inputs { inputs ≤ 8192 }
+    /// A formula without gates. Its inputs are given in the order in which diagrams ask for them: one that stands twice
+    /// or isn't an input is no part of a diagram.
+    pub fn new(alloc: Global, inputs: &[u32], width: Width, limit: u64) -> Result<Sharing, OutOfMemory>
+        requires few_inputs { length inputs.now ≤ 8192 }
         requires few_gates { limit ≤ 2 ^ 31 }
-        ensures { IfOk result (λ formula. formula ≡ record { inputs = inputs; limit = limit; gates = []; goal = Goal.Never }) }
+        ensures { IfOk result (λ formula. formula ≡ record { inputs = length inputs.now; limit = limit; gates = []; goal = Goal.Never }) }
     {
-        let functions = Functions::of_inputs(alloc, inputs)?;
+        let functions = Functions::of_inputs(alloc, inputs, width)?;
         Ok(Sharing {
-            formula: Formula::new(alloc, inputs, limit),
+            formula: Formula::new(alloc, inputs.len() as u32, limit),
             numbers: IndexMap::new(alloc),
             functions,
         })
+    }
+
+    /// From here on the diagrams of gates aren't looked for but for the smallest, or are again.
+    pub fn set_plain(&mut self, plain: bool)
+        ensures { self.new ≡ self.old }
+    {
+        self.functions.set_plain(plain);
     }
 
     /// The formula.
