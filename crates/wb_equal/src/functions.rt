@@ -142,16 +142,15 @@ impl Model for Functions {
 }
 
 impl Functions {
-    /// Those of a formula's inputs, each of which is itself, in the order in which diagrams ask for them.
-    pub fn of_inputs(alloc: Global, inputs: &[u32], width: Width) -> Result<Self, OutOfMemory>
-        requires { length inputs.now < 4294967295 }
-        ensures few { IfOk result (λ functions. length functions.variables ≤ length inputs.now) }
+    /// Those of so many inputs, each of which is itself, with the order in which diagrams ask for them.
+    pub fn of_inputs(alloc: Global, inputs: u32, order: &[u32], width: Width) -> Result<Self, OutOfMemory>
+        ensures few { IfOk result (λ functions. length functions.variables ≤ inputs) }
         ensures right { IfOk result (λ functions. (v : Assignment) → AreRight v functions) }
     {
         let mut functions = Functions {
             alloc,
             diagrams: Diagrams::new(alloc, NODES, PLACES)?,
-            order: Order::new(alloc, inputs)?,
+            order: Order::new(alloc, order)?,
             variables: Vec::new(alloc),
             numbers: IndexMap::new(alloc),
             steps: STEPS,
@@ -161,7 +160,7 @@ impl Functions {
             width,
             plain: false,
         };
-        for input in 0..inputs.len() as u32 {
+        for input in 0..inputs {
             functions.enter(input, None)?;
         }
         Ok(functions)

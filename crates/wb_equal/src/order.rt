@@ -1,5 +1,5 @@
 //! The order in which diagrams ask for the inputs.
-ghost use Rattle.std.specs.Prelude.{◌≡◌, ◌<◌, ℕ, List, IfOk, IfSome, length, slice_get};
+ghost use Rattle.std.specs.Prelude.{◌≡◌, ℕ, List, IfOk, IfSome, slice_get};
 ghost use Rattle.wb_equal.specs.Order.{name_of};
 
 use std::alloc::Global;
@@ -22,14 +22,12 @@ impl Model for Order {
 }
 
 /// The place of each number in a list, where it stands there.
-fn places_in(alloc: Global, names: &[u32]) -> Result<Vec<u32>, OutOfMemory>
-    requires { length names.now < 4294967295 }
-{
+fn places_in(alloc: Global, names: &[u32]) -> Result<Vec<u32>, OutOfMemory> {
     let mut places = vec![in alloc; 0u32; names.len()]?;
     for place in 0..names.len() {
         let name = names[place] as usize;
         if name < places.len() {
-            places[name] = place as u32;
+            places[name] = u32::try_from(place).unwrap_or(u32::MAX);
         }
     }
     Ok(places)
@@ -38,7 +36,6 @@ fn places_in(alloc: Global, names: &[u32]) -> Result<Vec<u32>, OutOfMemory>
 impl Order {
     /// That of a list of inputs.
     pub fn new(alloc: Global, inputs: &[u32]) -> Result<Self, OutOfMemory>
-        requires { length inputs.now < 4294967295 }
         ensures { IfOk result (λ order. order ≡ inputs.now) }
     {
         let names = inputs.to_vec(alloc)?;

@@ -50,16 +50,22 @@ impl Sharing {
     ghost use Rattle.wb_gate.specs.declared.gates.Goal.{Goal};
     ghost use Rattle.wb_equal.specs.Entries.{IsEntry};
 
-    /// A formula without gates. Its inputs are given in the order in which diagrams ask for them: one that stands twice
-    /// or isn't an input is no part of a diagram.
-    pub fn new(alloc: Global, inputs: &[u32], width: Width, limit: u64) -> Result<Sharing, OutOfMemory>
-        requires few_inputs { length inputs.now ≤ 8192 }
+    /// A formula without gates. Its diagrams ask for the inputs in an order, which may be any list: an input that it
+    /// leaves out or names twice has no diagram.
+    pub fn new(
+        alloc: Global,
+        inputs: u32,
+        limit: u64,
+        order: &[u32],
+        width: Width,
+    ) -> Result<Sharing, OutOfMemory>
+        requires few_inputs { inputs ≤ 8192 }
         requires few_gates { limit ≤ 2 ^ 31 }
-        ensures { IfOk result (λ formula. formula ≡ record { inputs = length inputs.now; limit = limit; gates = []; goal = Goal.Never }) }
+        ensures { IfOk result (λ formula. formula ≡ record { inputs = inputs; limit = limit; gates = []; goal = Goal.Never }) }
     {
-        let functions = Functions::of_inputs(alloc, inputs, width)?;
+        let functions = Functions::of_inputs(alloc, inputs, order, width)?;
         Ok(Sharing {
-            formula: Formula::new(alloc, inputs.len() as u32, limit),
+            formula: Formula::new(alloc, inputs, limit),
             numbers: IndexMap::new(alloc),
             functions,
         })
