@@ -143,7 +143,12 @@ impl Model for Functions {
 
 impl Functions {
     /// Those of so many inputs, each of which is itself, with the order in which diagrams ask for them.
-    pub fn of_inputs(alloc: Global, inputs: u32, order: &[u32], width: Width) -> Result<Self, OutOfMemory>
+    pub fn of_inputs(
+        alloc: Global,
+        inputs: u32,
+        order: &[u32],
+        width: Width,
+    ) -> Result<Self, OutOfMemory>
         ensures few { IfOk result (λ functions. length functions.variables ≤ inputs) }
         ensures right { IfOk result (λ functions. (v : Assignment) → AreRight v functions) }
     {
