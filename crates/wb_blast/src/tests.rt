@@ -72,7 +72,7 @@ fn the_limit_is_the_gate_number(rt: HostRuntime) -> Result<(), Fail> {
 
 #[test]
 fn constants_make_no_gate(rt: HostRuntime) -> Result<(), Fail> {
-    let mut formula = Sharing::new(rt.alloc(), 0, 48)?;
+    let mut formula = Sharing::new(rt.alloc(), 0, 48, &[], Width::Wide)?;
     let x = constant_word(0xFFFE);
     let y = constant_word(0x0123);
     let (sum, carry) = add_words(&mut formula, &x, &y, Entry::T)?;
