@@ -15,7 +15,7 @@ use crate::order::inputs_by_rank;
 use crate::places::Place;
 use crate::rows::Rows;
 use std::alloc::Global;
-use wb_equal::{Entry, Sharing, Width};
+use wb_equal::{Entry, Sharing};
 use wb_gate::{Formula, GateFault, Goal, clauses_say_the_gates, inputs_decide};
 use wb_term::{BitId, Graph};
 use wb_word::OutOfMemory;
@@ -94,7 +94,6 @@ fn blast_met(
     graph: &Graph,
     bits: &[BitId],
     limit: u64,
-    width: Width,
     met: Met,
 ) -> Result<Many, OutOfMemory>
     requires there { (k : ℕ) (bit : BitId) → slice_get bits.now k ≡ Some bit → HasBit graph.now bit }
@@ -105,18 +104,16 @@ fn blast_met(
 {
     let order = inputs_by_rank(alloc, met.places.as_slice())?;
     let inputs = met.places.len() as u32;
-    let formula = Sharing::new(alloc, inputs, limit, order.as_slice(), width)?;
+    let formula = Sharing::new(alloc, inputs, limit, order.as_slice())?;
     fill(alloc, graph, bits, met, formula)
 }
 
-/// The formula of some bits, with at most so many gates: in a formula that is refused none is made. The width says how
-/// far equal functions are looked for where they are sums.
+/// The formula of some bits, with at most so many gates: in a formula that is refused none is made.
 pub fn blast_many(
     alloc: Global,
     graph: &Graph,
     bits: &[BitId],
     limit: u64,
-    width: Width,
 ) -> Result<Many, GateFault>
     requires there { (k : ℕ) (bit : BitId) → slice_get bits.now k ≡ Some bit → HasBit graph.now bit }
     requires few { limit ≤ 2 ^ 31 }
@@ -129,7 +126,7 @@ pub fn blast_many(
     if met.weight > limit {
         return Err(GateFault::Full);
     }
-    let Ok(many) = blast_met(alloc, graph, bits, limit, width, met) else {
+    let Ok(many) = blast_met(alloc, graph, bits, limit, met) else {
         return Err(GateFault::OutOfMemory);
     };
     Ok(many)
@@ -151,13 +148,7 @@ fn goal_of(entry: Entry) -> Goal
 ///
 /// Its input variables are numbered in the order in which a walk from the bit meets the inputs, which goes into the
 /// condition of a choice before what it chooses.
-pub fn blast(
-    alloc: Global,
-    graph: &Graph,
-    bit: BitId,
-    limit: u64,
-    width: Width,
-) -> Result<Blasted, GateFault>
+pub fn blast(alloc: Global, graph: &Graph, bit: BitId, limit: u64) -> Result<Blasted, GateFault>
     requires there { HasBit graph.now bit }
     requires few { limit ≤ 2 ^ 31 }
     ensures blasted { IfOk result (λ made. IsBlasted graph.now bit limit made.formula made.places.items) }
@@ -166,7 +157,7 @@ pub fn blast(
     clauses_say_the_gates();
     inputs_decide();
     let _nodes = graph.len();
-    let many = blast_many(alloc, graph, &[bit], limit, width)?;
+    let many = blast_many(alloc, graph, &[bit], limit)?;
     let Many {
         mut formula,
         places,

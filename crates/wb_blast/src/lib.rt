@@ -37,4 +37,4 @@ pub use blasting::{Blasted, Many, blast, blast_many};
 pub use laws::{gate_numbers_agree, gate_numbers_are_light};
 pub use number::count_gates;
 pub use places::Place;
-pub use wb_equal::{Entry, Width};
+pub use wb_equal::Entry;

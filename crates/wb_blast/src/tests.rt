@@ -60,19 +60,14 @@ fn shared_nodes_weigh_once(rt: HostRuntime) -> Result<(), Fail> {
 #[test]
 fn the_limit_is_the_gate_number(rt: HostRuntime) -> Result<(), Fail> {
     let (graph, equal) = apart(&rt)?;
-    assert!(rt;
-        matches!(
-            blast(rt.alloc(), &graph, equal, 63, Width::Wide),
-            Err(GateFault::Full)
-        )
-    );
-    assert!(rt; blast(rt.alloc(), &graph, equal, 64, Width::Wide).is_ok());
+    assert!(rt; matches!(blast(rt.alloc(), &graph, equal, 63), Err(GateFault::Full)));
+    assert!(rt; blast(rt.alloc(), &graph, equal, 64).is_ok());
     Ok(())
 }
 
 #[test]
 fn constants_make_no_gate(rt: HostRuntime) -> Result<(), Fail> {
-    let mut formula = Sharing::new(rt.alloc(), 0, 48, &[], Width::Wide)?;
+    let mut formula = Sharing::new(rt.alloc(), 0, 48, &[])?;
     let x = constant_word(0xFFFE);
     let y = constant_word(0x0123);
     let (sum, carry) = add_words(&mut formula, &x, &y, Entry::T)?;
@@ -147,7 +142,7 @@ fn byte_question(rt: &HostRuntime) -> Result<(Graph, BitId), OutOfMemory>
 #[test]
 fn a_byte_is_found(rt: HostRuntime) -> Result<(), Fail> {
     let (graph, equal) = byte_question(&rt)?;
-    let made = blast(rt.alloc(), &graph, equal, 1000, Width::Wide)?;
+    let made = blast(rt.alloc(), &graph, equal, 1000)?;
     assert_eq!(rt; made.formula.inputs(), 8);
     assert_eq!(rt; made.places.first(), Some(&Place::Byte(0, 7)));
     for value in 0..256u16 {
@@ -183,7 +178,7 @@ fn has_value(rt: &HostRuntime, kind: u8, value: u16) -> Result<Blasted, Fail> {
     let node = graph.word(word_node(kind, x, y, c))?;
     let known = graph.word(WordNode::Const(value))?;
     let same = graph.bit(BitNode::Same(node, known))?;
-    Ok(blast(rt.alloc(), &graph, same, 1 << 20, Width::Wide)?)
+    Ok(blast(rt.alloc(), &graph, same, 1 << 20)?)
 }
 
 #[test]
@@ -230,7 +225,7 @@ fn bit_of(rt: &HostRuntime, kind: u8) -> Result<Blasted, Fail> {
     let (mut graph, x, y, c) = three_nodes(rt)?;
     let d = graph.bit(BitNode::Pick(x, 1))?;
     let bit = graph.bit(bit_node(kind, x, y, c, d))?;
-    Ok(blast(rt.alloc(), &graph, bit, 1000, Width::Wide)?)
+    Ok(blast(rt.alloc(), &graph, bit, 1000)?)
 }
 
 #[test]
@@ -264,7 +259,7 @@ fn two_bits(rt: &HostRuntime) -> Result<(Graph, BitId, BitId), OutOfMemory>
 #[test]
 fn equal_bits_have_equal_entries(rt: HostRuntime) -> Result<(), Fail> {
     let (graph, top, low) = two_bits(&rt)?;
-    let many = blast_many(rt.alloc(), &graph, &[top, low, top], 0, Width::Wide)?;
+    let many = blast_many(rt.alloc(), &graph, &[top, low, top], 0)?;
     assert_eq!(rt; many.places.len(), 8);
     let top = Entry::Lit(Lit { var: 0, neg: false });
     let low = Entry::Lit(Lit { var: 7, neg: false });

@@ -21,22 +21,13 @@ use wb_word::OutOfMemory;
 const NODES: u32 = 1 << 22;
 
 /// How many choices between diagrams are kept.
-const PLACES: usize = 1 << 14;
+const PLACES: usize = 1 << 16;
 
 /// How many steps the diagrams of a formula may take.
-const STEPS: u32 = 4_000_000;
+const STEPS: u32 = 20_000_000;
 
 /// A diagram that took no more steps is small, which saves counting its nodes.
 const FEW_STEPS: u32 = 16;
-
-/// How much room the diagrams of sums get.
-#[derive(Clone, Copy, PartialEq, Eq, Debug)]
-pub enum Width {
-    /// Most of them are made whole.
-    Wide,
-    /// A sum of unknown words soon stands for itself.
-    Narrow,
-}
 
 /// What the diagram of a gate may take.
 #[derive(Clone, Copy, PartialEq, Eq, Debug)]
@@ -48,20 +39,16 @@ pub struct Room {
 }
 
 impl Room {
-    /// Sums of unknown words and their carries grow fast, so they get less than choices.
-    fn of(gate: Gate, width: Width) -> Self {
-        match (gate, width) {
-            (Gate::And(..) | Gate::Mux(..), _) => Room {
-                steps: 20_000,
-                nodes: 10_000,
+    /// Sums of unknown words and their carries grow faster than choices, so they get less.
+    fn of(gate: Gate) -> Self {
+        match gate {
+            Gate::And(..) | Gate::Mux(..) => Room {
+                steps: 200_000,
+                nodes: 100_000,
             },
-            (_, Width::Wide) => Room {
-                steps: 10_000,
-                nodes: 3_000,
-            },
-            (_, Width::Narrow) => Room {
-                steps: 1_000,
-                nodes: 300,
+            Gate::Xor(..) | Gate::Maj(..) => Room {
+                steps: 100_000,
+                nodes: 20_000,
             },
         }
     }
@@ -126,7 +113,6 @@ pub struct Functions {
     spent: u32,
     /// With fewer nodes the gate's diagram stands for its variable.
     nodes: u32,
-    width: Width,
     /// Whether gates stand for themselves at once.
     plain: bool,
 }
@@ -143,12 +129,7 @@ impl Model for Functions {
 
 impl Functions {
     /// Those of so many inputs, each of which is itself, with the order in which diagrams ask for them.
-    pub fn of_inputs(
-        alloc: Global,
-        inputs: u32,
-        order: &[u32],
-        width: Width,
-    ) -> Result<Self, OutOfMemory>
+    pub fn of_inputs(alloc: Global, inputs: u32, order: &[u32]) -> Result<Self, OutOfMemory>
         ensures few { IfOk result (λ functions. length functions.variables ≤ inputs) }
         ensures right { IfOk result (λ functions. (v : Assignment) → AreRight v functions) }
     {
@@ -162,7 +143,6 @@ impl Functions {
             gate_steps: 0,
             spent: 0,
             nodes: 0,
-            width,
             plain: false,
         };
         for input in 0..inputs {
@@ -182,7 +162,7 @@ impl Functions {
         if self.plain {
             Room::of_plain()
         } else {
-            Room::of(gate, self.width)
+            Room::of(gate)
         }
     }
 

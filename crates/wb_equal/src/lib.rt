@@ -18,5 +18,4 @@ mod sharing;
 mod tests;
 
 pub use entries::{Entry, and, majority, mux, negation, or, xor};
-pub use functions::Width;
 pub use sharing::Sharing;

@@ -4,7 +4,7 @@ ghost use Rattle.wb_gate.specs.Circuit.{NamesBelow, variables, variable, gate_va
 ghost use Rattle.wb_gate.specs.Growth.{Extends, IsLit};
 
 use crate::entries::Entry;
-use crate::functions::{Functions, Width};
+use crate::functions::Functions;
 use indexmap::IndexMap;
 use std::alloc::Global;
 use std::marker::Model;
@@ -57,13 +57,12 @@ impl Sharing {
         inputs: u32,
         limit: u64,
         order: &[u32],
-        width: Width,
     ) -> Result<Sharing, OutOfMemory>
         requires few_inputs { inputs ≤ 8192 }
         requires few_gates { limit ≤ 2 ^ 31 }
         ensures { IfOk result (λ formula. formula ≡ record { inputs = inputs; limit = limit; gates = []; goal = Goal.Never }) }
     {
-        let functions = Functions::of_inputs(alloc, inputs, order, width)?;
+        let functions = Functions::of_inputs(alloc, inputs, order)?;
         Ok(Sharing {
             formula: Formula::new(alloc, inputs, limit),
             numbers: IndexMap::new(alloc),

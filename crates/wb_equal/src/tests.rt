@@ -5,7 +5,7 @@ use wb_gate::Lit;
 
 #[test]
 fn equal_gates_are_one(rt: HostRuntime) -> Result<(), Fail> {
-    let mut formula = Sharing::new(rt.alloc(), 2, 2, &[1, 0], Width::Wide)?;
+    let mut formula = Sharing::new(rt.alloc(), 2, 2, &[1, 0])?;
     let x = Entry::Lit(Lit { var: 0, neg: false });
     let y = Entry::Lit(Lit { var: 1, neg: false });
     let other = Entry::Lit(Lit { var: 0, neg: true });
