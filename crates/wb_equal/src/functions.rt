@@ -11,7 +11,7 @@ use crate::entries::{Entry, minus};
 use indexmap::IndexMap;
 use std::alloc::Global;
 use std::marker::Model;
-use wb_diagram::{Diagram, Diagrams, Refused};
+use wb_diagram::{Diagram, Diagrams, Refused, Turn};
 use wb_gate::{Gate, Lit};
 use wb_word::OutOfMemory;
 
@@ -165,6 +165,18 @@ impl Functions {
             Some(known) => known.whole,
             None => None,
         }
+    }
+
+    /// The path of a literal's diagram to true that goes low wherever it can.
+    pub(crate) fn path_of(
+        &self,
+        alloc: Global,
+        lit: Lit,
+    ) -> Result<Option<Vec<Turn>>, OutOfMemory> {
+        let Some(whole) = self.whole(lit.var) else {
+            return Ok(None);
+        };
+        self.diagrams.path(alloc, whole.side(lit.neg), false)
     }
 
     /// What stands for a variable.
