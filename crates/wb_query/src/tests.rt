@@ -207,10 +207,8 @@ fn shape(answer: &Answer) -> (bool, usize) {
 
 #[test]
 fn lies_are_handed_back(rt: HostRuntime) -> Result<(), Fail> {
-    let (graph, equal) = byte_question(&rt)?;
-    // Eight inputs, and seven gates that gather where the byte differs.
+    let (graph, equal) = product_question(&rt)?;
     for (lie, want) in [
-        (Lie::Falsehoods, (true, 15)),
         (Lie::NoValues, (true, 0)),
         (Lie::NoStep, (false, 0)),
         (Lie::EmptyStep, (false, 1)),
@@ -221,6 +219,36 @@ fn lies_are_handed_back(rt: HostRuntime) -> Result<(), Fail> {
             Err(AskFault::BadAnswer(_, answer)) => assert_eq!(rt; shape(&answer), want),
             _ => return Err("not handed back".into()),
         }
+    }
+    Ok(())
+}
+
+#[test]
+fn false_values_are_handed_back(rt: HostRuntime) -> Result<(), Fail> {
+    let (graph, equal) = product_question(&rt)?;
+    let mut liar = Liar {
+        lie: Lie::Falsehoods,
+    };
+    match ask_small(&rt, &graph, equal, &mut liar) {
+        Err(AskFault::BadAnswer(blasted, answer)) => {
+            assert_eq!(rt; blasted.formula.inputs(), 32);
+            assert_eq!(rt;
+                shape(&answer),
+                (true, blasted.formula.variables() as usize)
+            );
+        }
+        _ => return Err("not handed back".into()),
+    }
+    Ok(())
+}
+
+#[test]
+fn what_is_likely_is_found_without_the_oracle(rt: HostRuntime) -> Result<(), Fail> {
+    let (graph, equal) = byte_question(&rt)?;
+    let mut liar = Liar { lie: Lie::NoStep };
+    match ask_small(&rt, &graph, equal, &mut liar) {
+        Ok(Found::Holds(inputs)) => assert_eq!(rt; inputs.byte(0), 0xC3),
+        _ => return Err("not found".into()),
     }
     Ok(())
 }
