@@ -214,11 +214,6 @@ fn are_open(x: &Word, y: &Word) -> bool {
     is_open(x) && is_open(y)
 }
 
-/// From now on no large diagrams are looked for, or they are again.
-fn set_plain(_formula: &mut Sharing, _plain: bool)
-    ensures { _formula.new ≡ _formula.old }
-{}
-
 /// The product, made with no look for large diagrams: those of its gates would outgrow every limit.
 fn multiply_plain(formula: &mut Sharing, x: &Word, y: &Word) -> Result<Double, OutOfMemory>
     requires x_there { AreBelow (variables formula.old) x.now }
@@ -227,9 +222,9 @@ fn multiply_plain(formula: &mut Sharing, x: &Word, y: &Word) -> Result<Double, O
     ensures means { IfOk result (λ d. IsDouble formula.new d (λ v. product (number v x.now) (number v y.now))) }
     ensures extends { IfOk result (λ _. Extends formula.old formula.new 2048) }
 {
-    set_plain(formula, true);
+    formula.set_plain(true);
     let product = multiply(formula, x, y)?;
-    set_plain(formula, false);
+    formula.set_plain(false);
     Ok(product)
 }
 

@@ -13,7 +13,7 @@ use crate::order::Order;
 use indexmap::IndexMap;
 use std::alloc::Global;
 use std::marker::Model;
-use wb_diagram::{Diagram, Diagrams, Refused};
+use wb_diagram::{Diagram, Diagrams, Refused, Turn};
 use wb_gate::{Gate, Lit};
 use wb_word::OutOfMemory;
 
@@ -193,6 +193,23 @@ impl Functions {
             Some(known) => known.whole,
             None => None,
         }
+    }
+
+    /// The variable of the formula for which a variable of the diagrams stands.
+    pub(crate) fn name(&self, variable: u32) -> u32 {
+        self.order.name(variable)
+    }
+
+    /// The path of a literal's diagram to true that goes low wherever it can.
+    pub(crate) fn path_of(
+        &self,
+        alloc: Global,
+        lit: Lit,
+    ) -> Result<Option<Vec<Turn>>, OutOfMemory> {
+        let Some(whole) = self.whole(lit.var) else {
+            return Ok(None);
+        };
+        self.diagrams.path(alloc, whole.side(lit.neg), false)
     }
 
     /// What stands for a variable.

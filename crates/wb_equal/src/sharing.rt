@@ -16,7 +16,7 @@ use wb_word::OutOfMemory;
 pub struct Sharing {
     formula: Formula,
     numbers: IndexMap<Gate, u64>,
-    functions: Functions,
+    pub(crate) functions: Functions,
 }
 
 impl Model for Sharing {
@@ -87,6 +87,13 @@ impl Sharing {
             functions: _,
         } = self;
         formula
+    }
+
+    /// How many inputs there are.
+    pub(crate) fn inputs(&self) -> u32
+        ensures { result ≡ self.now.inputs }
+    {
+        self.formula.inputs()
     }
 
     /// The variable of an equal gate that was added before.

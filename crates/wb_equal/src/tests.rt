@@ -1,4 +1,4 @@
-//! Gates that are equal up to order and signs.
+//! Gates that are equal up to order and signs, and likely values by hand.
 use super::*;
 use std::test::Fail;
 use wb_gate::Lit;
@@ -15,5 +15,24 @@ fn equal_gates_are_one(rt: HostRuntime) -> Result<(), Fail> {
     let again = xor(&mut formula, y, x)?;
     assert_eq!(rt; again, Entry::Lit(Lit { var: 2, neg: false }));
     assert_eq!(rt; formula.into_formula().gates(), 1);
+    Ok(())
+}
+
+#[test]
+fn likely_values_go_low_where_they_can(rt: HostRuntime) -> Result<(), Fail> {
+    let mut formula = Sharing::new(rt.alloc(), 3, 2)?;
+    let x = Entry::Lit(Lit { var: 0, neg: false });
+    let z = Entry::Lit(Lit { var: 2, neg: false });
+    let apart = xor(&mut formula, x, z)?;
+    let likely = formula
+        .likely(rt.alloc(), apart)?
+        .ok_or("nothing is likely")?;
+    assert_eq!(rt; likely.as_slice(), [false, false, true].as_slice());
+    let both = and(&mut formula, x, z)?;
+    let likely = formula
+        .likely(rt.alloc(), both)?
+        .ok_or("nothing is likely")?;
+    assert_eq!(rt; likely.as_slice(), [true, false, true].as_slice());
+    assert!(rt; formula.likely(rt.alloc(), Entry::F)?.is_none());
     Ok(())
 }
