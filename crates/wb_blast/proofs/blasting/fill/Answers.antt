@@ -1,4 +1,4 @@
-use Rattle.std.proofs.Common.{◌≡◌, refl, sym, ap, subst, length}
+use Rattle.std.proofs.Common.{refl, sym, subst}
 use Rattle.wb_gate.specs.Circuit.{Circuit}
 use Rattle.wb_blast.specs.declared.rows.Rows.{Rows}
 use Rattle.wb_blast.specs.Blasting.{AreBlasted}
