@@ -1,9 +1,10 @@
 #!/usr/bin/env python3
 """Compares the firmware of bench/firmware/, each written twice, and prints for each comparison the verdict that is
-wanted and the one that came, seconds and the most seconds wanted, and memory. Before it compares, it runs random
-dialogues of the shape on both images by `n7725 run`: where EQUAL is wanted, none may tell them apart. The dialogue of a
-DIFFERENT is run on both images too, and must give what was printed. Ends with status 1 where a verdict is another or
-left open, or a reply is wrong; a slow comparison is only marked. Usage: firmware.py [PROGRAM]. Wants a built program."""
+wanted and the one that came, seconds and the most seconds wanted, memory, and the conflicts of a question: 1 where the
+verdict comes with one as well, else `more`. Before it compares, it runs random dialogues of the shape on both images by
+`n7725 run`: where EQUAL is wanted, none may tell them apart. The dialogue of a DIFFERENT is run on both images too, and
+must give what was printed. Ends with status 1 where a verdict is another or left open, or a reply is wrong; a slow
+comparison is only marked. Usage: firmware.py [PROGRAM]. Wants a built program."""
 import os, pathlib, random, resource, subprocess, sys, tempfile, time
 
 TOP = pathlib.Path(__file__).resolve().parent.parent
@@ -109,7 +110,8 @@ class Bench:
             self.faults.append(f"{what}, {' '.join(words)}: {' / '.join(lines) or verdict}")
         left_open = verdict.startswith(("UNKNOWN", "GIVEN UP"))
         mark = "OPEN" if left_open else "WRONG" if not good else "SLOW" if seconds > most else ""
-        print(f"{what:30} {wanted:9}  {verdict:24} {seconds:7.2f} {most:5} {size:6.0f}  {mark:5}  {' '.join(words)}", flush=True)
+        conflicts = "" if left_open else "1" if self.compare([*words, "conflicts=1"])[0] == lines else "more"
+        print(f"{what:30} {wanted:9}  {verdict:24} {seconds:7.2f} {most:5} {size:6.0f} {conflicts:>9}  {mark:5}  {' '.join(words)}", flush=True)
 
 
 def main():
@@ -121,7 +123,7 @@ def main():
         bench = Bench(program, pathlib.Path(folder))
         for source in sorted(SOURCES.glob("*.asm")):
             bench.assemble(source.stem)
-        print(f"{'':30} {'wanted':9}  {'got':24} {'seconds':>7} {'most':>5} {'MiB':>6}")
+        print(f"{'':30} {'wanted':9}  {'got':24} {'seconds':>7} {'most':>5} {'MiB':>6} {'conflicts':>9}")
         for case in CASES:
             bench.judge(case, pick)
     for fault in bench.faults:
