@@ -2,6 +2,7 @@
 use Rattle.std.proofs.Common.{◌≡◌, ℕ, zero, suc, ◌<◌, ◌≤◌, Bool, true, false, ◌&&◌, List, [], ◌∷◌, length, Some, slice_get, slice_index, get_or, refl, sym, ◌∙◌, ap, subst, arith, Vec, Global}
 use Rattle.std.proofs.lemmas.List.Folds.{list_all-append}
 use Rattle.std.proofs.lemmas.Option.{slice_get_within}
+use Rattle.wb_gate.specs.declared.gates.Goal.{Goal}
 use Rattle.wb_gate.specs.Circuit.{Circuit, Assignment, variables, IsCircuit, Obeys}
 use Rattle.wb_gate.specs.Clauses.{Satisfies, SatisfiesAll, satisfies_clause, gates_clauses, goal_clauses}
 use Rattle.wb_gate.specs.Laws.{ClausesSayTheGates, InputsDecide}
@@ -30,6 +31,24 @@ use Rattle.wb_blast.proofs.Builds.{bit_at}
 use Rattle.wb_blast.proofs.Given.{inputs_given, are_inputs, gives_inputs}
 use Rattle.wb_blast.proofs.Lists.{sum_of_some}
 use Rattle.wb_blast.proofs.Owners.{IsInRange}
+
+-- Nothing is done yet.
+pub begun : (g : Terms) (bits : List BitId) (met : Met) (r : Rows) (limit : ℕ) (c : Circuit) → HasMet g bits met → r.slots ≡ met.slots → r.words.items ≡ [] → r.bits.items ≡ [] →
+    c ≡ record { inputs = length r.places.items; limit = limit; gates = []; goal = Goal.Never } → Building g r limit c r 0
+begun g bits met r limit c is same words entries empty = record {
+  inputs = ap (λ (x : Circuit). x.inputs) empty;
+  same_limit = ap (λ (x : Circuit). x.limit) empty;
+  places = refl;
+  covers = ap length same ∙ is.covers;
+  few_words = (let n = ap length words in omega (arith, n));
+  few_bits = (let n = ap length entries in omega (arith, n));
+  done = λ k n below. absurd (omega (arith, below));
+  rest = λ k low. refl;
+  ds = [];
+  distinct = search;
+  each = λ j among. absurd among;
+  gates = (let n : length c.gates ≡ 0 = ap (λ (x : Circuit). length x.gates) empty in omega (arith, n));
+}
 
 -- the rows of the bits
 pub bit_done : (g : Terms) (bits : List BitId) (met : Met) (ready r : Rows) (limit : ℕ) (c : Circuit) → ready.slots ≡ met.slots → HasMet g bits met →

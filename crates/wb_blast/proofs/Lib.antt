@@ -5,6 +5,7 @@ pub mod Factors
 pub mod Lists
 pub mod Doubled
 pub mod Multiples
+pub mod Orders
 pub mod Sums
 pub mod Walk
 pub mod Appended

@@ -11,6 +11,7 @@ ghost use Rattle.wb_blast.specs.Rows.{HasBitRows, AreBitRows};
 
 use crate::building::build;
 use crate::meeting::{Met, walk};
+use crate::order::inputs_by_rank;
 use crate::places::Place;
 use crate::rows::Rows;
 use std::alloc::Global;
@@ -24,6 +25,8 @@ use wb_word::OutOfMemory;
 pub struct Blasted {
     pub formula: Formula,
     pub places: Vec<Place>,
+    /// Values of the inputs under which the bit is likely true.
+    pub likely: Option<Vec<bool>>,
 }
 
 /// The formula of some bits, for each input variable its place, and for each bit its entry.
@@ -32,6 +35,8 @@ pub struct Many {
     pub formula: Formula,
     pub places: Vec<Place>,
     pub entries: Vec<Entry>,
+    /// Values of the inputs under which a bit that is alone is likely true.
+    pub likely: Option<Vec<bool>>,
 }
 
 /// The entries of the bits.
@@ -44,6 +49,18 @@ fn entries_of(alloc: Global, rows: &Rows, bits: &[BitId]) -> Result<Vec<Entry>, 
         entries.push(rows.bit(bits[at]))?;
     }
     Ok(entries)
+}
+
+/// Values of the inputs under which an entry that is alone is likely true.
+fn likely_of(
+    alloc: Global,
+    formula: &Sharing,
+    entries: &[Entry],
+) -> Result<Option<Vec<bool>>, OutOfMemory> {
+    match entries {
+        [entry] => formula.likely(alloc, *entry),
+        _ => Ok(None),
+    }
 }
 
 /// The formula of the nodes that were met, from one without gates.
@@ -74,6 +91,7 @@ fn fill(
     };
     build(&mut formula, graph, &mut rows)?;
     let entries = entries_of(alloc, &rows, bits)?;
+    let likely = likely_of(alloc, &formula, entries.as_slice())?;
     let Rows {
         places,
         slots: _,
@@ -84,6 +102,7 @@ fn fill(
         formula: formula.into_formula(),
         places,
         entries,
+        likely,
     })
 }
 
@@ -101,7 +120,9 @@ fn blast_met(
     requires few { limit ≤ 2 ^ 31 }
     ensures { IfOk result (λ many. AreBlasted graph.now bits.now limit many.formula many.places.items many.entries.items) }
 {
-    let formula = Sharing::new(alloc, met.places.len() as u32, limit)?;
+    let order = inputs_by_rank(alloc, met.places.as_slice())?;
+    let inputs = met.places.len() as u32;
+    let formula = Sharing::new(alloc, inputs, limit, order.as_slice())?;
     fill(alloc, graph, bits, met, formula)
 }
 
@@ -159,7 +180,12 @@ pub fn blast(alloc: Global, graph: &Graph, bit: BitId, limit: u64) -> Result<Bla
         mut formula,
         places,
         entries,
+        likely,
     } = many;
     formula.set_goal(goal_of(entries[0]));
-    Ok(Blasted { formula, places })
+    Ok(Blasted {
+        formula,
+        places,
+        likely,
+    })
 }

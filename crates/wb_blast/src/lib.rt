@@ -1,7 +1,8 @@
 //! From terms to gates: the bits of a term graph as a formula whose satisfying assignments are the inputs.
 //!
 //! `count_gates` tells how many gates a bit may need. `blast` makes the formula of a bit: for all inputs it has an
-//! assignment that gives them exactly where the bit is true. `blast_many` gives the entries of several bits in one
+//! assignment that gives them exactly where the bit is true. With it come values of the inputs under which the bit is
+//! likely true, where its diagram was found. `blast_many` gives the entries of several bits in one
 //! formula.
 //!
 //! An `Entry` is what one bit is in a formula, a `Word` what sixteen are, the lowest first. `blasting` has the
@@ -24,6 +25,7 @@ mod laws;
 mod lookups;
 mod meeting;
 mod number;
+mod order;
 mod places;
 mod products;
 mod rows;

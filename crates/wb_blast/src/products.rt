@@ -1,4 +1,5 @@
-//! Products: twice the signed product of two words, cut to 32 bits.
+//! Products: twice the signed product of two words, cut to 32 bits. The factors are brought in one order first, so that
+//! `x * y` and `y * x` are made of equal gates.
 ghost use Rattle.std.specs.Prelude.{◌≡◌, ◌+◌, ◌-◌, ◌*◌, ◌/◌, ◌%◌, ◌≤◌, ℕ, if◌then◌else◌, IfOk, length};
 ghost use Rattle.wb_gate.specs.Circuit.{Assignment, variables};
 ghost use Rattle.wb_gate.specs.Growth.{Extends};
@@ -163,6 +164,86 @@ fn multiply(formula: &mut Sharing, x: &Word, y: &Word) -> Result<Double, OutOfMe
     Ok(product)
 }
 
+/// What an entry ranks as: constants below literals, these by variable and then by sign.
+fn rank(entry: Entry) -> u64 {
+    match entry {
+        Entry::F => 0,
+        Entry::T => 1,
+        Entry::Lit(lit) => 2 + 2 * u64::from(lit.var) + u64::from(lit.neg),
+    }
+}
+
+/// Whether the first word ranks below the second: the highest entries that differ tell.
+fn ranks_below(x: &Word, y: &Word) -> bool {
+    for from_top in 0..16 {
+        let at = 15 - from_top;
+        let (mine, other) = (rank(x[at]), rank(y[at]));
+        if mine != other {
+            return mine < other;
+        }
+    }
+    false
+}
+
+/// The two factors in an order that their entries tell: the lower one is last, since the bits of the last tell which
+/// rows are added, and none is where a bit is known to be clear.
+fn in_order(x: &Word, y: &Word) -> (Word, Word)
+    ensures value { (v : Assignment) → product (number v result.0) (number v result.1) ≡ product (number v x.now) (number v y.now) }
+    ensures first_there { (n : ℕ) → AreBelow n x.now → AreBelow n y.now → AreBelow n result.0 }
+    ensures second_there { (n : ℕ) → AreBelow n x.now → AreBelow n y.now → AreBelow n result.1 }
+{
+    if ranks_below(x, y) {
+        (*y, *x)
+    } else {
+        (*x, *y)
+    }
+}
+
+/// Whether some bit of the word isn't known.
+fn is_open(x: &Word) -> bool {
+    for at in 0..16 {
+        if matches!(x[at], Entry::Lit(_)) {
+            return true;
+        }
+    }
+    false
+}
+
+/// Whether in each of two words some bit isn't known.
+fn are_open(x: &Word, y: &Word) -> bool {
+    is_open(x) && is_open(y)
+}
+
+/// The product, made with no look for large diagrams: those of its gates would outgrow every limit.
+fn multiply_plain(formula: &mut Sharing, x: &Word, y: &Word) -> Result<Double, OutOfMemory>
+    requires x_there { AreBelow (variables formula.old) x.now }
+    requires y_there { AreBelow (variables formula.old) y.now }
+    requires room { length formula.old.gates + 2048 ≤ formula.old.limit }
+    ensures means { IfOk result (λ d. IsDouble formula.new d (λ v. product (number v x.now) (number v y.now))) }
+    ensures extends { IfOk result (λ _. Extends formula.old formula.new 2048) }
+{
+    formula.set_plain(true);
+    let product = multiply(formula, x, y)?;
+    formula.set_plain(false);
+    Ok(product)
+}
+
+/// The product of the factors in their order.
+fn multiply_in_order(formula: &mut Sharing, x: &Word, y: &Word) -> Result<Double, OutOfMemory>
+    requires x_there { AreBelow (variables formula.old) x.now }
+    requires y_there { AreBelow (variables formula.old) y.now }
+    requires room { length formula.old.gates + 2048 ≤ formula.old.limit }
+    ensures means { IfOk result (λ d. IsDouble formula.new d (λ v. product (number v x.now) (number v y.now))) }
+    ensures extends { IfOk result (λ _. Extends formula.old formula.new 2048) }
+{
+    let (first, second) = in_order(x, y);
+    if are_open(x, y) {
+        multiply_plain(formula, &first, &second)
+    } else {
+        multiply(formula, &first, &second)
+    }
+}
+
 /// The low 16 bits.
 fn low_word(x: &Double) -> Word
     ensures value { (v : Assignment) → number v result ≡ double v x.now % 65536 }
@@ -187,7 +268,7 @@ pub fn low_product(formula: &mut Sharing, x: &Word, y: &Word) -> Result<Word, Ou
     ensures means { IfOk result (λ w. IsNumber formula.new w (λ v. product (number v x.now) (number v y.now) % 65536)) }
     ensures extends { IfOk result (λ _. Extends formula.old formula.new 2048) }
 {
-    let product = multiply(formula, x, y)?;
+    let product = multiply_in_order(formula, x, y)?;
     Ok(low_word(&product))
 }
 
@@ -199,6 +280,6 @@ pub fn high_product(formula: &mut Sharing, x: &Word, y: &Word) -> Result<Word, O
     ensures means { IfOk result (λ w. IsNumber formula.new w (λ v. product (number v x.now) (number v y.now) / 65536)) }
     ensures extends { IfOk result (λ _. Extends formula.old formula.new 2048) }
 {
-    let product = multiply(formula, x, y)?;
+    let product = multiply_in_order(formula, x, y)?;
     Ok(high_word(&product))
 }

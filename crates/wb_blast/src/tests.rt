@@ -67,7 +67,7 @@ fn the_limit_is_the_gate_number(rt: HostRuntime) -> Result<(), Fail> {
 
 #[test]
 fn constants_make_no_gate(rt: HostRuntime) -> Result<(), Fail> {
-    let mut formula = Sharing::new(rt.alloc(), 0, 48)?;
+    let mut formula = Sharing::new(rt.alloc(), 0, 48, &[])?;
     let x = constant_word(0xFFFE);
     let y = constant_word(0x0123);
     let (sum, carry) = add_words(&mut formula, &x, &y, Entry::T)?;
@@ -264,5 +264,24 @@ fn equal_bits_have_equal_entries(rt: HostRuntime) -> Result<(), Fail> {
     let top = Entry::Lit(Lit { var: 0, neg: false });
     let low = Entry::Lit(Lit { var: 7, neg: false });
     assert_eq!(rt; many.entries.as_slice(), [top, low, top].as_slice());
+    Ok(())
+}
+
+/// The bit that is true where the products of two words in both orders are equal.
+fn both_orders(rt: &HostRuntime) -> Result<(Graph, BitId), OutOfMemory>
+    ensures { IfOk result (λ made. HasBit made.0 made.1) }
+{
+    let (mut graph, x, y, _) = three_nodes(rt)?;
+    let product = graph.word(WordNode::Low(x, y))?;
+    let turned = graph.word(WordNode::Low(y, x))?;
+    let equal = graph.bit(BitNode::Same(product, turned))?;
+    Ok((graph, equal))
+}
+
+#[test]
+fn products_in_both_orders_are_the_same_gates(rt: HostRuntime) -> Result<(), Fail> {
+    let (graph, equal) = both_orders(&rt)?;
+    let made = blast(rt.alloc(), &graph, equal, 1 << 14)?;
+    assert_eq!(rt; made.formula.goal(), Goal::Always);
     Ok(())
 }

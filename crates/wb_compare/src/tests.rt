@@ -79,6 +79,55 @@ const POWC: &[u32] = &[0xC10007, 0x00000F, 0x0000F6, 0x97C00C, 0xA00004];
 
 const POWD: &[u32] = &[0xC10007, 0x00000F, 0x000006, 0x97C00C, 0xA00004];
 
+/// Answers 11, 22 or 33 to 1, 2 or 3, counting down to it, and 0 to all other bytes.
+const COUNTED: &[u32] = &[
+    0xC10007, 0x000080, 0x97C008, 0x000091, 0x080000, 0x914034, 0x080000, 0x91403C, 0x080000,
+    0x914044, 0xC00006, 0x97C02C, 0xA00004, 0xC00446, 0xA0002C, 0xC00886, 0xA0002C, 0xC00CC6,
+    0xA0002C,
+];
+
+/// The same, by comparisons with 3, 2 and 1.
+const COMPARED: &[u32] = &[
+    0xC10007, 0x000080, 0x97C008, 0x00009A, 0xC000C3, 0x0000D1, 0x130030, 0x91405C, 0xC00083,
+    0x0000D1, 0x130030, 0x914054, 0xC00043, 0x0000D1, 0x130030, 0x91404C, 0xC00006, 0x97C044,
+    0xA00004, 0xC00446, 0xA00044, 0xC00886, 0xA00044, 0xC00CC6, 0xA00044,
+];
+
+/// The same but for 34 to 3.
+const MISTAKEN: &[u32] = &[
+    0xC10007, 0x000080, 0x97C008, 0x00009A, 0xC000C3, 0x0000D1, 0x130030, 0x91405C, 0xC00083,
+    0x0000D1, 0x130030, 0x914054, 0xC00043, 0x0000D1, 0x130030, 0x91404C, 0xC00006, 0x97C044,
+    0xA00004, 0xC00446, 0xA00044, 0xC00886, 0xA00044, 0xC00D06, 0xA00044,
+];
+
+/// Answers the byte.
+const WHOLE: &[u32] = &[
+    0xC10007, 0x000080, 0x97C008, 0x000096, 0x97C010, 0xA00004,
+];
+
+/// The same, joined of its two halves.
+const JOINED: &[u32] = &[
+    0xC10007, 0x000080, 0x97C008, 0x000091, 0x000012, 0xC03C03, 0x120030, 0xC003C3, 0x128030,
+    0x110020, 0x000016, 0x97C02C, 0xA00004,
+];
+
+/// Answers 1 to 55 and 0 to all other bytes, by a difference.
+const TAKEN_AWAY: &[u32] = &[
+    0xC10007, 0x000080, 0x97C008, 0x000091, 0xC01543, 0x140030, 0x914028, 0xC00006, 0x97C020,
+    0xA00004, 0xC00046, 0xA00020,
+];
+
+/// The same, by an exclusive or.
+const EXCLUDED: &[u32] = &[
+    0xC10007, 0x000080, 0x97C008, 0x000091, 0xC01543, 0x130030, 0x914028, 0xC00006, 0x97C020,
+    0xA00004, 0xC00046, 0xA00020,
+];
+
+/// Answers 0 to each byte.
+const NEVER: &[u32] = &[
+    0xC10007, 0x000080, 0x97C008, 0x000091, 0xC00006, 0x97C014, 0xA00004,
+];
+
 const X2: &[Letter] = &[Letter::X, Letter::X];
 
 const SUMS: &[Letter] = &[
@@ -127,7 +176,7 @@ const TURNS: &[Letter] = &[
     Letter::R,
 ];
 
-const ROWS: [Row; 18] = [
+const ROWS: [Row; 23] = [
     Row {
         a: ECHO,
         b: ECHO,
@@ -307,6 +356,56 @@ const ROWS: [Row; 18] = [
         points: 4096,
         conflicts: 100000,
         wanted: Wanted::Kept,
+    },
+    Row {
+        a: COUNTED,
+        b: COMPARED,
+        letters: &[Letter::W, Letter::R],
+        pace: 20,
+        power: Power::Zero,
+        points: 4096,
+        conflicts: 0,
+        wanted: Wanted::Kept,
+    },
+    Row {
+        a: COUNTED,
+        b: MISTAKEN,
+        letters: &[Letter::W, Letter::R],
+        pace: 20,
+        power: Power::Zero,
+        points: 4096,
+        conflicts: 0,
+        wanted: Wanted::Different(&[Access::Write(3), Access::Read]),
+    },
+    Row {
+        a: WHOLE,
+        b: JOINED,
+        letters: &[Letter::W, Letter::R],
+        pace: 20,
+        power: Power::Zero,
+        points: 4096,
+        conflicts: 0,
+        wanted: Wanted::Kept,
+    },
+    Row {
+        a: TAKEN_AWAY,
+        b: EXCLUDED,
+        letters: &[Letter::W, Letter::R],
+        pace: 20,
+        power: Power::Zero,
+        points: 4096,
+        conflicts: 0,
+        wanted: Wanted::Kept,
+    },
+    Row {
+        a: TAKEN_AWAY,
+        b: NEVER,
+        letters: &[Letter::W, Letter::R],
+        pace: 20,
+        power: Power::Zero,
+        points: 4096,
+        conflicts: 0,
+        wanted: Wanted::Different(&[Access::Write(0x55), Access::Read]),
     },
 ];
 

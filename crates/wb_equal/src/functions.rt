@@ -1,17 +1,19 @@
-//! What the variables of a formula say, as decision diagrams over the variables themselves.
+//! What the variables of a formula say, as decision diagrams over these variables.
 ghost use Rattle.std.specs.Prelude.{◌≡◌, ◌+◌, ◌<◌, ◌≤◌, ◌++◌, [], ◌∷◌, ℕ, Bool, true, false, not, ◌&&◌, ◌||◌, if◌then◌else◌, IfOk, IfErr, OnOk, OnErr, IfSome, Some, length, slice_get};
 ghost use Rattle.wb_diagram.specs.Forest.{HasDiagram};
 ghost use Rattle.wb_diagram.specs.Values.{value, IsFunction, IsLeaf};
 ghost use Rattle.wb_diagram.specs.Growth.{Grown};
 ghost use Rattle.wb_gate.specs.Circuit.{Assignment, gate_value, lit_value};
 ghost use Rattle.wb_equal.specs.Entries.{entry_value, EntryBelow};
+ghost use Rattle.wb_equal.specs.Order.{named};
 ghost use Rattle.wb_equal.specs.Functions.{IsBoard, HasFunction, HasKnown, Says, SaysKnown, AreRight, IsDiagramOf, IsFunctionOf, IsKnownOf, Keeps};
 
 use crate::entries::{Entry, minus};
+use crate::order::Order;
 use indexmap::IndexMap;
 use std::alloc::Global;
 use std::marker::Model;
-use wb_diagram::{Diagram, Diagrams, Refused};
+use wb_diagram::{Diagram, Diagrams, Refused, Turn};
 use wb_gate::{Gate, Lit};
 use wb_word::OutOfMemory;
 
@@ -19,10 +21,10 @@ use wb_word::OutOfMemory;
 const NODES: u32 = 1 << 22;
 
 /// How many choices between diagrams are kept.
-const PLACES: usize = 1 << 14;
+const PLACES: usize = 1 << 16;
 
 /// How many steps the diagrams of a formula may take.
-const STEPS: u32 = 2_000_000;
+const STEPS: u32 = 20_000_000;
 
 /// A diagram that took no more steps is small, which saves counting its nodes.
 const FEW_STEPS: u32 = 16;
@@ -37,17 +39,25 @@ pub struct Room {
 }
 
 impl Room {
-    /// Sums of unknown words and their carries grow fast, and products of them without end, so they get less.
-    pub fn of(gate: Gate) -> Self {
+    /// Sums of unknown words and their carries grow faster than choices, so they get less.
+    fn of(gate: Gate) -> Self {
         match gate {
             Gate::And(..) | Gate::Mux(..) => Room {
-                steps: 20_000,
-                nodes: 10_000,
+                steps: 200_000,
+                nodes: 100_000,
             },
             Gate::Xor(..) | Gate::Maj(..) => Room {
-                steps: 1_000,
-                nodes: 300,
+                steps: 100_000,
+                nodes: 20_000,
             },
+        }
+    }
+
+    /// Products of unknown words grow without end, so their gates stand for themselves at once.
+    fn of_plain() -> Self {
+        Room {
+            steps: 50,
+            nodes: 3,
         }
     }
 }
@@ -91,6 +101,7 @@ pub struct Known {
 pub struct Functions {
     alloc: Global,
     diagrams: Diagrams,
+    order: Order,
     variables: Vec<Known>,
     /// The variable of a function, by its key.
     numbers: IndexMap<Diagram, u32>,
@@ -102,6 +113,8 @@ pub struct Functions {
     spent: u32,
     /// With fewer nodes the gate's diagram stands for its variable.
     nodes: u32,
+    /// Whether gates stand for themselves at once.
+    plain: bool,
 }
 
 impl Model for Functions {
@@ -109,33 +122,48 @@ impl Model for Functions {
 
     ghost Value = { Board };
 
-    ghost view = { λ f. record { forest = f.diagrams; variables = f.variables.items } };
+    ghost view = { λ f. record { forest = f.diagrams; names = f.order; variables = f.variables.items } };
 
-    ghost invariant = { λ f. IsBoard (record { forest = f.diagrams; variables = f.variables.items }) };
+    ghost invariant = { λ f. IsBoard (record { forest = f.diagrams; names = f.order; variables = f.variables.items }) };
 }
 
 impl Functions {
-    /// Those of so many inputs, each of which is itself.
-    pub fn of_inputs(alloc: Global, inputs: u32) -> Result<Self, OutOfMemory>
-        requires { inputs < 4294967295 }
+    /// Those of so many inputs, each of which is itself, with the order in which diagrams ask for them.
+    pub fn of_inputs(alloc: Global, inputs: u32, order: &[u32]) -> Result<Self, OutOfMemory>
         ensures few { IfOk result (λ functions. length functions.variables ≤ inputs) }
         ensures right { IfOk result (λ functions. (v : Assignment) → AreRight v functions) }
     {
-        let diagrams = Diagrams::new(alloc, NODES, PLACES)?;
         let mut functions = Functions {
             alloc,
-            diagrams,
+            diagrams: Diagrams::new(alloc, NODES, PLACES)?,
+            order: Order::new(alloc, order)?,
             variables: Vec::new(alloc),
             numbers: IndexMap::new(alloc),
             steps: STEPS,
             gate_steps: 0,
             spent: 0,
             nodes: 0,
+            plain: false,
         };
         for input in 0..inputs {
             functions.enter(input, None)?;
         }
         Ok(functions)
+    }
+
+    /// From here on each gate stands for itself at once, or no longer.
+    pub fn set_plain(&mut self, plain: bool)
+        ensures { self.new ≡ self.old }
+    {
+        self.plain = plain;
+    }
+
+    fn room_of(&self, gate: Gate) -> Room {
+        if self.plain {
+            Room::of_plain()
+        } else {
+            Room::of(gate)
+        }
     }
 
     fn known_at(&self, var: u32) -> Option<Known>
@@ -165,6 +193,23 @@ impl Functions {
             Some(known) => known.whole,
             None => None,
         }
+    }
+
+    /// The variable of the formula for which a variable of the diagrams stands.
+    pub(crate) fn name(&self, variable: u32) -> u32 {
+        self.order.name(variable)
+    }
+
+    /// The path of a literal's diagram to true that goes low wherever it can.
+    pub(crate) fn path_of(
+        &self,
+        alloc: Global,
+        lit: Lit,
+    ) -> Result<Option<Vec<Turn>>, OutOfMemory> {
+        let Some(whole) = self.whole(lit.var) else {
+            return Ok(None);
+        };
+        self.diagrams.path(alloc, whole.side(lit.neg), false)
     }
 
     /// What stands for a variable.
@@ -214,13 +259,26 @@ impl Functions {
         self.diagrams.not(d, &mut self.gate_steps)
     }
 
-    /// The diagram that a variable is itself.
-    fn variable(&mut self, var: u32) -> Result<Diagram, Refused>
-        requires { var < 4294967295 }
-        ensures value { IfOk result (λ d. IsFunction self.new.forest d (λ v. v var)) }
+    /// The diagram that a variable of the diagrams is itself.
+    fn variable(&mut self, variable: u32) -> Result<Diagram, Refused>
+        requires { variable < 4294967295 }
+        ensures value { IfOk result (λ d. IsFunction self.new.forest d (λ v. v variable)) }
         ensures keeps { Keeps self.old self.new }
     {
-        self.diagrams.variable(var)
+        self.diagrams.variable(variable)
+    }
+
+    /// The variable of the diagrams that stands for a variable of the formula.
+    fn place_of(&self, var: u32) -> Option<u32>
+        ensures there { IfSome result (λ variable. variable < 4294967295) }
+        ensures stands { IfSome result (λ variable. (v : Assignment) → named self.now.names v variable ≡ v var) }
+    {
+        let variable = self.order.variable_of(var)?;
+        if variable == u32::MAX {
+            None
+        } else {
+            Some(variable)
+        }
     }
 
     /// The diagram of a choice between literals.
@@ -304,7 +362,7 @@ impl Functions {
         ensures value { IfSome result (IsFunctionOf self.new (λ v. gate_value v gate)) }
         ensures keeps { Keeps self.old self.new }
     {
-        let room = Room::of(gate);
+        let room = self.room_of(gate);
         let granted = self.steps.min(room.steps);
         self.gate_steps = granted;
         self.nodes = room.nodes;
@@ -326,7 +384,7 @@ impl Functions {
 
     /// The constant or the literal that has a function.
     fn entry_like(&self, function: Function) -> Option<Entry>
-        ensures value { IfSome result (λ entry. (v : Assignment) → AreRight v self.now → entry_value v entry ≡ value v self.now.forest function.yes) }
+        ensures value { IfSome result (λ entry. (v : Assignment) → AreRight v self.now → entry_value v entry ≡ value (named self.now.names v) self.now.forest function.yes) }
         ensures there { IfSome result (EntryBelow (length self.now.variables)) }
     {
         if function.yes == self.leaf(true) {
@@ -341,7 +399,7 @@ impl Functions {
 
     /// The literal that has a function.
     fn literal_of(&self, function: Function) -> Option<Lit>
-        ensures value { IfSome result (λ lit. (v : Assignment) → AreRight v self.now → lit_value v lit ≡ value v self.now.forest function.yes) }
+        ensures value { IfSome result (λ lit. (v : Assignment) → AreRight v self.now → lit_value v lit ≡ value (named self.now.names v) self.now.forest function.yes) }
         ensures there { IfSome result (λ lit. lit.var < length self.now.variables) }
     {
         let var = *self.numbers.get(&function.key())?;
@@ -358,14 +416,12 @@ impl Functions {
     /// The function that a variable is itself.
     fn own(&mut self, var: u32) -> Option<Function>
         ensures there { IfSome result (HasFunction self.new.forest) }
-        ensures says { IfSome result (λ function. (v : Assignment) → Says v self.new.forest (v var) function) }
+        ensures says { IfSome result (λ function. (v : Assignment) → Says (named self.new.names v) self.new.forest (v var) function) }
         ensures keeps { Keeps self.old self.new }
     {
-        if var == u32::MAX {
-            return None;
-        }
+        let variable = self.place_of(var)?;
         self.gate_steps = FEW_STEPS;
-        let Ok(yes) = self.variable(var) else {
+        let Ok(yes) = self.variable(variable) else {
             return None;
         };
         let Ok(no) = self.negated(yes) else {
@@ -391,7 +447,7 @@ impl Functions {
     fn known_of(&mut self, var: u32, function: Option<Function>) -> Known
         requires there { IfSome function (HasFunction self.old.forest) }
         ensures there { HasKnown self.new.forest result }
-        ensures says { (v : Assignment) → IfSome function (Says v self.old.forest (v var)) → SaysKnown v self.new.forest (v var) result }
+        ensures says { (v : Assignment) → IfSome function (Says (named self.old.names v) self.old.forest (v var)) → SaysKnown (named self.new.names v) self.new.forest (v var) result }
         ensures keeps { Keeps self.old self.new }
     {
         let own = self.own(var);
@@ -415,6 +471,7 @@ impl Functions {
     fn push(&mut self, known: Known) -> Result<(), OutOfMemory>
         requires { HasKnown self.old.forest known }
         ensures forest { self.new.forest ≡ self.old.forest }
+        ensures names { self.new.names ≡ self.old.names }
         ensures ok { OnOk result (self.new.variables ≡ self.old.variables ++ known ∷ []) }
         ensures err { OnErr result (self.new ≡ self.old) }
     {
@@ -441,7 +498,7 @@ impl Functions {
     pub fn enter(&mut self, var: u32, function: Option<Function>) -> Result<(), OutOfMemory>
         requires there { IfSome function (HasFunction self.old.forest) }
         ensures few { (n : ℕ) → var < n → length self.old.variables ≤ n → length self.new.variables ≤ n }
-        ensures right { (v : Assignment) → AreRight v self.old → IfSome function (Says v self.old.forest (v var)) → AreRight v self.new }
+        ensures right { (v : Assignment) → AreRight v self.old → IfSome function (Says (named self.old.names v) self.old.forest (v var)) → AreRight v self.new }
     {
         if self.variables.len() != var as usize {
             return Ok(());

@@ -5,12 +5,15 @@
 //! that constant or that literal.
 //!
 //! `entries` has the entries, which are constants or literals, and the gates over them; `sharing` the formula, and
-//! `functions` what its variables say, as diagrams over the variables. `specs/Entries.antt` says what an entry means,
-//! `specs/Functions.antt` what the diagrams do.
+//! `functions` what its variables say, as diagrams over these variables; `order` has the order in which diagrams ask
+//! for them, and `likely` values under which an entry is likely true. `specs/Entries.antt` says what an entry means,
+//! `specs/Functions.antt` and `specs/Order.antt` what the diagrams do.
 #![tactic(auto)]
 
 mod entries;
 mod functions;
+mod likely;
+mod order;
 mod sharing;
 #[cfg(test)]
 mod tests;

@@ -16,7 +16,7 @@ use wb_word::OutOfMemory;
 pub struct Sharing {
     formula: Formula,
     numbers: IndexMap<Gate, u64>,
-    functions: Functions,
+    pub(crate) functions: Functions,
 }
 
 impl Model for Sharing {
@@ -50,18 +50,31 @@ impl Sharing {
     ghost use Rattle.wb_gate.specs.declared.gates.Goal.{Goal};
     ghost use Rattle.wb_equal.specs.Entries.{IsEntry};
 
-    /// A formula without gates.
-    pub fn new(alloc: Global, inputs: u32, limit: u64) -> Result<Sharing, OutOfMemory>
+    /// A formula without gates. Its diagrams ask for the inputs in an order, which may be any list: an input that it
+    /// leaves out or names twice has no diagram.
+    pub fn new(
+        alloc: Global,
+        inputs: u32,
+        limit: u64,
+        order: &[u32],
+    ) -> Result<Sharing, OutOfMemory>
         requires few_inputs { inputs ≤ 8192 }
         requires few_gates { limit ≤ 2 ^ 31 }
         ensures { IfOk result (λ formula. formula ≡ record { inputs = inputs; limit = limit; gates = []; goal = Goal.Never }) }
     {
-        let functions = Functions::of_inputs(alloc, inputs)?;
+        let functions = Functions::of_inputs(alloc, inputs, order)?;
         Ok(Sharing {
             formula: Formula::new(alloc, inputs, limit),
             numbers: IndexMap::new(alloc),
             functions,
         })
+    }
+
+    /// From here on the diagrams of gates aren't looked for but for the smallest, or are again.
+    pub fn set_plain(&mut self, plain: bool)
+        ensures { self.new ≡ self.old }
+    {
+        self.functions.set_plain(plain);
     }
 
     /// The formula.
@@ -74,6 +87,13 @@ impl Sharing {
             functions: _,
         } = self;
         formula
+    }
+
+    /// How many inputs there are.
+    pub(crate) fn inputs(&self) -> u32
+        ensures { result ≡ self.now.inputs }
+    {
+        self.formula.inputs()
     }
 
     /// The variable of an equal gate that was added before.

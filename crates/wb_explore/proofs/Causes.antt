@@ -1,10 +1,10 @@
 -- Why a walk stops, told from its beginning, and what an oracle has given on the way.
-use Rattle.std.proofs.Common.{◌≡◌, ℕ, ◌+◌, Bool, Option, Some, None, List, refl, sym, ap, subst, ◌∙◌}
+use Rattle.std.proofs.Common.{◌≡◌, ℕ, ◌+◌, Bool, Option, Some, None, List, refl, sym, ap, subst, ◌∙◌, inl, inr}
 use Rattle.wb_rom.specs.declared.images.Image.{Image}
 use Rattle.wb_gate.specs.Circuit.{Circuit}
 use Rattle.wb_solve.specs.declared.search.Answer.{Answer}
 use Rattle.wb_solve.specs.Answers.{IsSpent}
-use Rattle.wb_query.specs.Oracles.{AnswersNext, GivesOneMore}
+use Rattle.wb_query.specs.Oracles.{AnswersNext, GivesOneMore, GivesAtMostOneMore}
 use Rattle.wb_explore.specs.declared.plan.Plan.{Plan}
 use Rattle.wb_explore.specs.declared.budget.Budget.{Budget}
 use Rattle.wb_explore.specs.declared.faults.ExploreFault.{ExploreFault}
@@ -71,10 +71,16 @@ tells_same (Some answers) (Some n) = (n, refl)
 tells_same (Some answers) None = tt
 tells_same None given = tt
 
-pub tells_more : (held : Option (List Answer)) (before after : Option ℕ) → GivesOneMore held before after → StillTells held before after
-tells_more (Some answers) (Some n) after u = (_, u)
-tells_more (Some answers) None after u = tt
-tells_more None before after u = tt
+tells_one_more : (held : Option (List Answer)) (before after : Option ℕ) → GivesOneMore held before after → StillTells held before after
+tells_one_more (Some answers) (Some n) after u = (_, u)
+tells_one_more (Some answers) None after u = tt
+tells_one_more None before after u = tt
+
+pub tells_more : (held : Option (List Answer)) (before after : Option ℕ) → GivesAtMostOneMore held before after → StillTells held before after
+tells_more held before after u = elim u [
+  | inl same ↦ subst (λ (x : Option ℕ). StillTells held before x) (sym same) (tells_same held before)
+  | inr more ↦ tells_one_more held before after more
+]
 
 pub tells_on : (held : Option (List Answer)) (a b c : Option ℕ) → StillTells held a b → StillTells held b c → StillTells held a c
 tells_on (Some answers) (Some n) b c (m, e) v = subst (λ (x : Option ℕ). StillTells (Some answers) x c) e v

@@ -1,7 +1,7 @@
 ghost use Rattle.std.specs.Prelude.{◌≡◌, ◌≤◌, ◌^◌, ℕ, [], ◌∷◌, IfOk, IfErr};
 ghost use Rattle.wb_blast.specs.Number.{IsGateNumber};
 ghost use Rattle.wb_query.specs.Asking.{IsFound, IsAskFault};
-ghost use Rattle.wb_query.specs.Oracles.{AnswersNext, GivesOneMore};
+ghost use Rattle.wb_query.specs.Oracles.{AnswersNext, GivesAtMostOneMore};
 ghost use Rattle.wb_explore.specs.Entries.{SaysPassing};
 ghost use Rattle.wb_explore.specs.Plans.{runs_of};
 ghost use Rattle.wb_explore.specs.Purses.{Holding};
@@ -79,7 +79,7 @@ pub(crate) fn ask_point<O: Oracle>(
     ensures found { IfOk result (IsFound graph.now entry.now.cond) }
     ensures fault { IfErr result (λ f. (before : Holding) → before.budget.conflicts ≡ O.limit_of oracle.old → IsCause image.now plan.now (O.is_sound oracle.old) before f) }
     ensures last { IfErr result (OfBadAnswer (λ c answer. AnswersNext c (O.held oracle.old) (O.given oracle.old) (O.given oracle.new) answer)) }
-    ensures next { IfOk result (λ _. GivesOneMore (O.held oracle.old) (O.given oracle.old) (O.given oracle.new)) }
+    ensures next { IfOk result (λ _. GivesAtMostOneMore (O.held oracle.old) (O.given oracle.old) (O.given oracle.new)) }
     ensures sound { O.is_sound oracle.new ≡ O.is_sound oracle.old }
     ensures limit { O.limit_of oracle.new ≡ O.limit_of oracle.old }
     ensures held { O.held oracle.new ≡ O.held oracle.old }

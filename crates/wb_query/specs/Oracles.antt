@@ -1,5 +1,5 @@
 -- What an oracle that tells its list of answers gives next.
-use Rattle.std.specs.Prelude.{◌≡◌, ℕ, ◌+◌, ◌≤◌, Bool, false, List, [], ◌++◌, length, min, Option, Some, None, slice_get, slice_index_or}
+use Rattle.std.specs.Prelude.{◌≡◌, ℕ, ◌+◌, ◌≤◌, ◌⊎◌, Bool, false, List, [], ◌++◌, length, min, Option, Some, None, slice_get, slice_index_or}
 use Rattle.wb_gate.specs.Circuit.{Circuit, Assignment, Obeys}
 use Rattle.wb_solve.specs.declared.search.Answer.{Answer}
 use Rattle.wb_solve.specs.declared.search.Answer.TheVariants.{Sat, Unsat, Spent}
@@ -37,3 +37,7 @@ abbrev pub GivesOneMore : Option (List Answer) → Option ℕ → Option ℕ →
 GivesOneMore (Some answers) (Some before) after = after ≡ Some (min (before + 1) (length answers + 1))
 GivesOneMore (Some answers) None after = Unit {0}
 GivesOneMore None before after = Unit {0}
+
+-- It has given as many as before, or one more.
+abbrev pub GivesAtMostOneMore : Option (List Answer) → Option ℕ → Option ℕ → Type 0
+GivesAtMostOneMore held before after = (after ≡ before) ⊎ GivesOneMore held before after

@@ -4,11 +4,10 @@ ghost use Rattle.wb_term.specs.Terms.{HasBit};
 ghost use Rattle.wb_blast.specs.Number.{IsGateNumber};
 ghost use Rattle.wb_derive.specs.Verdict.{IsVerdict};
 ghost use Rattle.wb_query.specs.Asking.{IsFound, IsAskFault, IsFormulaOf, AreSatisfying, OfBadAnswer};
-ghost use Rattle.wb_query.specs.Oracles.{AnswersNext, GivesOneMore};
+ghost use Rattle.wb_query.specs.Oracles.{AnswersNext, GivesAtMostOneMore};
 
-use crate::filling::inputs_of;
 use crate::oracles::Oracle;
-use crate::satisfaction::is_satisfied;
+use crate::trying::{try_likely, try_values};
 use std::alloc::Global;
 use wb_blast::{Blasted, blast};
 use wb_derive::{Check, CheckScratch, Derivation, check, verdicts_are_sound};
@@ -62,12 +61,10 @@ fn judge_values(
     ensures fault { IfErr result (λ fault. (limit : ℕ) → IsAskFault graph.now bit sound limit fault) }
     ensures carried { IfErr result (OfBadAnswer (λ c answer. (c ≡ blasted.formula) × (answer ≡ Answer.Sat values))) }
 {
-    let _nodes = graph.len();
-    if !is_satisfied(&blasted.formula, values.list()) {
-        return Err(AskFault::BadAnswer(blasted, Answer::Sat(values)));
+    match try_values(alloc, graph, bit, &blasted, values.list())? {
+        Some(found) => Ok(found),
+        None => Err(AskFault::BadAnswer(blasted, Answer::Sat(values))),
     }
-    let inputs = inputs_of(alloc, blasted.places.as_slice(), values.list())?;
-    Ok(Found::Holds(inputs))
 }
 
 /// What a derivation comes to that is said to refute the formula.
@@ -93,7 +90,8 @@ fn judge_derivation(
     }
 }
 
-/// Whether the bit is true under some inputs. What is found is right for every oracle.
+/// Whether the bit is true under some inputs. What is found is right for every oracle, which isn't asked where likely
+/// values make the bit true.
 pub fn ask<O: Oracle>(
     alloc: Global,
     graph: &Graph,
@@ -105,7 +103,7 @@ pub fn ask<O: Oracle>(
     ensures found { IfOk result (IsFound graph.now bit) }
     ensures fault { IfErr result (IsAskFault graph.now bit (O.is_sound oracle.old) (O.limit_of oracle.old)) }
     ensures last { IfErr result (OfBadAnswer (λ c answer. AnswersNext c (O.held oracle.old) (O.given oracle.old) (O.given oracle.new) answer)) }
-    ensures next { IfOk result (λ _. GivesOneMore (O.held oracle.old) (O.given oracle.old) (O.given oracle.new)) }
+    ensures next { IfOk result (λ _. GivesAtMostOneMore (O.held oracle.old) (O.given oracle.old) (O.given oracle.new)) }
     ensures sound { O.is_sound oracle.new ≡ O.is_sound oracle.old }
     ensures limit { O.limit_of oracle.new ≡ O.limit_of oracle.old }
     ensures held { O.held oracle.new ≡ O.held oracle.old }
@@ -115,6 +113,9 @@ pub fn ask<O: Oracle>(
         Err(GateFault::OutOfMemory) => return Err(AskFault::OutOfMemory),
         Err(GateFault::Full) => unreachable!(),
     };
+    if let Some(found) = try_likely(alloc, graph, bit, &blasted)? {
+        return Ok(found);
+    }
     let sound = oracle.sound();
     match oracle.answer(alloc, &blasted.formula)? {
         Answer::Sat(values) => judge_values(alloc, graph, bit, sound, blasted, values),

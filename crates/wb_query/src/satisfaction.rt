@@ -9,7 +9,7 @@ ghost use Rattle.wb_query.specs.Oracles.{assigned};
 use wb_gate::{Formula, Lit};
 
 /// Whether a literal is true.
-fn is_true(values: &[bool], lit: Lit) -> bool
+pub(crate) fn is_true(values: &[bool], lit: Lit) -> bool
     ensures { result ≡ lit_value (assigned values.now) lit }
 {
     let value = match values.get(lit.var as usize) {

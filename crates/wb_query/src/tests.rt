@@ -195,6 +195,37 @@ fn a_search_ends_at_its_limit(rt: HostRuntime) -> Result<(), Fail> {
     Ok(())
 }
 
+/// The bit that is true where two bytes, multiplied and doubled, give 70.
+fn factors_question(rt: &HostRuntime) -> Result<(Graph, BitId), OutOfMemory>
+    ensures { IfOk result (λ made. HasBit made.0 made.1) }
+{
+    let a = Rom::zero(rt.alloc())?;
+    let b = Rom::zero(rt.alloc())?;
+    let mut graph = Graph::new(rt.alloc(), &a, &b)?;
+    let first = graph.word(WordNode::Byte(0))?;
+    let second = graph.word(WordNode::Byte(1))?;
+    let product = graph.word(WordNode::Low(first, second))?;
+    let wanted = graph.word(WordNode::Const(70))?;
+    let equal = graph.bit(BitNode::Same(product, wanted))?;
+    Ok((graph, equal))
+}
+
+#[test]
+fn factors_are_found(rt: HostRuntime) -> Result<(), Fail> {
+    let (graph, equal) = factors_question(&rt)?;
+    let mut oracle = SolverOracle::new(10_000);
+    match ask_small(&rt, &graph, equal, &mut oracle) {
+        Ok(Found::Holds(inputs)) => {
+            let product = u32::from(inputs.byte(0)) * u32::from(inputs.byte(1));
+            assert_eq!(rt; product * 2 % 0x10000, 70);
+        }
+        _ => return Err("not found".into()),
+    }
+    let mut liar = Liar { lie: Lie::NoStep };
+    assert!(rt; ask_small(&rt, &graph, equal, &mut liar).is_err());
+    Ok(())
+}
+
 /// What a lie looks like: whether it is values, and how many values or steps it has.
 fn shape(answer: &Answer) -> (bool, usize) {
     match answer {
@@ -207,10 +238,8 @@ fn shape(answer: &Answer) -> (bool, usize) {
 
 #[test]
 fn lies_are_handed_back(rt: HostRuntime) -> Result<(), Fail> {
-    let (graph, equal) = byte_question(&rt)?;
-    // Eight inputs, and seven gates that gather where the byte differs.
+    let (graph, equal) = product_question(&rt)?;
     for (lie, want) in [
-        (Lie::Falsehoods, (true, 15)),
         (Lie::NoValues, (true, 0)),
         (Lie::NoStep, (false, 0)),
         (Lie::EmptyStep, (false, 1)),
@@ -221,6 +250,36 @@ fn lies_are_handed_back(rt: HostRuntime) -> Result<(), Fail> {
             Err(AskFault::BadAnswer(_, answer)) => assert_eq!(rt; shape(&answer), want),
             _ => return Err("not handed back".into()),
         }
+    }
+    Ok(())
+}
+
+#[test]
+fn false_values_are_handed_back(rt: HostRuntime) -> Result<(), Fail> {
+    let (graph, equal) = product_question(&rt)?;
+    let mut liar = Liar {
+        lie: Lie::Falsehoods,
+    };
+    match ask_small(&rt, &graph, equal, &mut liar) {
+        Err(AskFault::BadAnswer(blasted, answer)) => {
+            assert_eq!(rt; blasted.formula.inputs(), 32);
+            assert_eq!(rt;
+                shape(&answer),
+                (true, blasted.formula.variables() as usize)
+            );
+        }
+        _ => return Err("not handed back".into()),
+    }
+    Ok(())
+}
+
+#[test]
+fn what_is_likely_is_found_without_the_oracle(rt: HostRuntime) -> Result<(), Fail> {
+    let (graph, equal) = byte_question(&rt)?;
+    let mut liar = Liar { lie: Lie::NoStep };
+    match ask_small(&rt, &graph, equal, &mut liar) {
+        Ok(Found::Holds(inputs)) => assert_eq!(rt; inputs.byte(0), 0xC3),
+        _ => return Err("not found".into()),
     }
     Ok(())
 }

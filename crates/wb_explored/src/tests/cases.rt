@@ -206,6 +206,12 @@ const ODDS: &[u32] = &[
     0x13_0000, 0x91_402C, 0x00_0016, 0x97_C02C, 0xA0_0030,
 ];
 
+/// Branches where the product of two bytes, doubled, has 1 for its upper word.
+const FACTORS: &[u32] = &[
+    0xC1_0007, 0x00_0080, 0x97_C008, 0x00_008A, 0x97_C010, 0x00_009D, 0xC0_004E, 0xC0_0001,
+    0x21_0000, 0x13_0000, 0x91_4030, 0x00_0016, 0x97_C030, 0xA0_0034,
+];
+
 /// Programs without a branch on what is written.
 pub(super) const STRAIGHT: [Case; 17] = [
     Case {
@@ -616,26 +622,48 @@ pub(super) const EVERY: [Case; 7] = [
 /// The words of a program, the kinds of its dialogues, who answers, and what comes of it.
 pub(super) type Row = (&'static [u32], &'static [Kind], Answers, Comes);
 
-/// Where no question is open, no oracle is asked.
-pub(super) const CHECKED: [Row; 22] = [
+/// Where no question is open, or likely values settle it, no oracle is asked.
+pub(super) const CHECKED: [Row; 24] = [
     (HANG, &[W], Answers::Search(0), Comes::Layer),
-    (THREES, &[W], Answers::Search(0), Comes::Spent),
-    (THREES, &[W], Answers::Search(256), Comes::Layer),
+    (THREES, &[W], Answers::Search(0), Comes::Layer),
+    (FACTORS, &[W, W], Answers::Search(0), Comes::Spent),
+    (FACTORS, &[W, W], Answers::Search(256), Comes::Layer),
     (ODDS, &[W], Answers::Search(0), Comes::Layer),
     (HANG, &[W], Answers::Search(256), Comes::Layer),
     (HANG, &[R], Answers::Search(0), Comes::Layer),
-    (THREES, &[W], Answers::Lies(Lie::Spent), Comes::BadAnswer),
+    (THREES, &[W], Answers::Lies(Lie::Spent), Comes::Layer),
+    (THREES, &[W], Answers::Lies(Lie::Falsehoods), Comes::Layer),
+    (HANG, &[W], Answers::Lies(Lie::NoStep), Comes::Layer),
     (
-        THREES,
-        &[W],
+        FACTORS,
+        &[W, W],
         Answers::Lies(Lie::Falsehoods),
         Comes::BadAnswer,
     ),
-    (HANG, &[W], Answers::Lies(Lie::Falsehoods), Comes::BadAnswer),
-    (HANG, &[W], Answers::Lies(Lie::NoValues), Comes::BadAnswer),
-    (HANG, &[W], Answers::Lies(Lie::NoStep), Comes::BadAnswer),
-    (HANG, &[W], Answers::Lies(Lie::EmptyStep), Comes::BadAnswer),
-    (HANG, &[W], Answers::Lies(Lie::Spent), Comes::BadAnswer),
+    (
+        FACTORS,
+        &[W, W],
+        Answers::Lies(Lie::NoValues),
+        Comes::BadAnswer,
+    ),
+    (
+        FACTORS,
+        &[W, W],
+        Answers::Lies(Lie::NoStep),
+        Comes::BadAnswer,
+    ),
+    (
+        FACTORS,
+        &[W, W],
+        Answers::Lies(Lie::EmptyStep),
+        Comes::BadAnswer,
+    ),
+    (
+        FACTORS,
+        &[W, W],
+        Answers::Lies(Lie::Spent),
+        Comes::BadAnswer,
+    ),
     (ODDS, &[W], Answers::Lies(Lie::Falsehoods), Comes::BadAnswer),
     (ODDS, &[W], Answers::Lies(Lie::NoValues), Comes::BadAnswer),
     (ODDS, &[W], Answers::Lies(Lie::NoStep), Comes::BadAnswer),

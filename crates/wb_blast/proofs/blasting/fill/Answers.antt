@@ -1,9 +1,14 @@
-use Rattle.std.proofs.Common.{◌≡◌, refl, sym, ap, subst, length}
+use Rattle.std.proofs.Common.{refl, sym, subst}
 use Rattle.wb_gate.specs.Circuit.{Circuit}
 use Rattle.wb_blast.specs.declared.rows.Rows.{Rows}
 use Rattle.wb_blast.specs.Blasting.{AreBlasted}
-use Rattle.wb_blast.proofs.Finals.{bits_done, all_done}
+use Rattle.wb_blast.proofs.Finals.{begun, bits_done, all_done}
 use Rattle.wb_blast.proofs.blasting.fill.Goals as goal
+
+pub build-requires-clause-begun : goal.build-requires-clause-begun
+build-requires-clause-begun c =
+    let ready : Rows = record { places = c.args.met.places; slots = c.args.met.slots; words = c.new.result; bits = c.new-2.result } in
+    begun c.args.graph.now c.args.bits.now c.args.met ready c.args.formula.limit c.args.formula c.requires.met refl c.new.ensures.items c.new-2.ensures.items c.requires.empty
 
 pub entries_of-requires : goal.entries_of-requires
 entries_of-requires c =
