@@ -101,9 +101,7 @@ const MISTAKEN: &[u32] = &[
 ];
 
 /// Answers the byte.
-const WHOLE: &[u32] = &[
-    0xC10007, 0x000080, 0x97C008, 0x000096, 0x97C010, 0xA00004,
-];
+const WHOLE: &[u32] = &[0xC10007, 0x000080, 0x97C008, 0x000096, 0x97C010, 0xA00004];
 
 /// The same, joined of its two halves.
 const JOINED: &[u32] = &[
