@@ -33,5 +33,3 @@ pub use layout::Layout;
 pub use names::Names;
 pub use spaces::Space;
 
-#[cfg(test)]
-mod tests;

@@ -30,8 +30,6 @@ mod places;
 mod products;
 mod rows;
 mod shifts;
-#[cfg(test)]
-mod tests;
 mod words;
 
 pub use blasting::{Blasted, Many, blast, blast_many};

@@ -24,8 +24,6 @@ mod questions;
 mod settling;
 mod shapes;
 mod sides;
-#[cfg(test)]
-mod tests;
 mod verdicts;
 mod working;
 

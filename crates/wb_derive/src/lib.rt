@@ -12,8 +12,6 @@ mod laws;
 mod rising;
 mod scratch;
 mod steps;
-#[cfg(test)]
-mod tests;
 mod verdicts;
 
 pub use checks::check;

@@ -28,5 +28,3 @@ pub use nodes::{Choice, Diagram, Node, Turn};
 pub use refused::Refused;
 pub use wb_word::OutOfMemory;
 
-#[cfg(test)]
-mod tests;

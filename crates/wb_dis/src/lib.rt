@@ -15,5 +15,3 @@ pub use laws::{lines_tell_words_apart, listings_assemble};
 pub use lines::{TextLine, line_of};
 pub use listings::disassemble;
 
-#[cfg(test)]
-mod tests;

@@ -15,8 +15,6 @@ mod functions;
 mod likely;
 mod order;
 mod sharing;
-#[cfg(test)]
-mod tests;
 
 pub use entries::{Entry, and, majority, mux, negation, or, xor};
 pub use sharing::Sharing;

@@ -36,8 +36,6 @@ mod questions;
 mod reached;
 mod starts;
 mod telling;
-#[cfg(test)]
-mod tests;
 mod transfers;
 mod visiting;
 mod walking;

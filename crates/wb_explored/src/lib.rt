@@ -8,6 +8,8 @@
 #![tactic(auto)]
 
 mod counting;
+#[cfg(test)]
+mod explore;
 mod exploring;
 #[cfg(test)]
 mod tests;

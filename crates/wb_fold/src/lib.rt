@@ -29,5 +29,3 @@ pub use wb_make::{
 };
 pub use wb_term::OutOfMemory;
 
-#[cfg(test)]
-mod tests;

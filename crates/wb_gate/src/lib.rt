@@ -11,8 +11,6 @@ mod formulas;
 mod gates;
 mod laws;
 mod rows;
-#[cfg(test)]
-mod tests;
 
 pub use clauses::GateClause;
 pub use formulas::{Formula, GateFault};

@@ -10,8 +10,6 @@ mod bodies;
 mod laws;
 mod pairs;
 mod program;
-#[cfg(test)]
-mod tests;
 
 pub use laws::{numbers_have_bodies, pairs_keep_going, pairs_reach_few_points, pairs_say_the_same};
 pub use pairs::make_pair;

@@ -36,8 +36,6 @@ mod requests;
 mod runs;
 mod schedules;
 mod strides;
-#[cfg(test)]
-mod tests;
 mod values;
 mod waits;
 

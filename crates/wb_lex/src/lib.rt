@@ -11,8 +11,6 @@ mod faults;
 mod front;
 mod laws;
 mod scanner;
-#[cfg(test)]
-mod tests;
 mod tokens;
 mod words;
 

@@ -11,8 +11,6 @@ mod jumps;
 mod laws;
 mod processor;
 mod registers;
-#[cfg(test)]
-mod tests;
 
 pub use laws::{moves_to_sr_go_by_bits, parts_go_on_alone, ranges_are_kept, starts_are_in_range};
 pub use processor::Machine;

@@ -26,5 +26,3 @@ pub use wb_law::{Class, class_at, rank_at};
 pub use wb_port::{Point, Points, Shown};
 pub use wb_symstep::{OutOfMemory, SymState};
 
-#[cfg(test)]
-mod tests;

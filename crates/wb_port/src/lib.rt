@@ -21,8 +21,6 @@ mod replays;
 mod runs;
 mod shapes;
 mod talks;
-#[cfg(test)]
-mod tests;
 mod trails;
 
 pub use accesses::{Access, Event, Kind, Letter, Power};

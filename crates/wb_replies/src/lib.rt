@@ -22,5 +22,3 @@ pub use laws::{
     circuits_stay, differences_are_of_replies, differences_are_shown, differences_say_questions,
 };
 
-#[cfg(test)]
-mod tests;

@@ -25,8 +25,6 @@ mod links;
 mod marks;
 mod propagation;
 mod search;
-#[cfg(test)]
-mod tests;
 mod trail;
 mod values;
 

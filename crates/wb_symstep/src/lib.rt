@@ -38,5 +38,3 @@ pub use step::sym_step;
 pub use stepped::Stepped;
 pub use wb_fold::{OutOfMemory, Pages};
 
-#[cfg(test)]
-mod tests;

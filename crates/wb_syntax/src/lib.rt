@@ -24,8 +24,6 @@ mod separators;
 mod spans;
 mod spelling;
 mod statements;
-#[cfg(test)]
-mod tests;
 
 pub use clauses::Clause;
 pub use exprs::{Expr, Node};

@@ -24,5 +24,3 @@ pub use nodes::{BitId, BitNode, Node, Table, WordId, WordNode};
 pub use scratch::Scratch;
 pub use wb_word::OutOfMemory;
 
-#[cfg(test)]
-mod tests;

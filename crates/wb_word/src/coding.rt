@@ -111,5 +111,3 @@ fn operation_bits(op: &OpWord) -> u32
         + op.dst.code()
 }
 
-#[cfg(test)]
-mod tests;

@@ -13,8 +13,6 @@ mod memory;
 mod numbers;
 mod sides;
 mod table;
-#[cfg(test)]
-mod tests;
 mod words;
 
 pub use codes::{Acc, Alu, Dpl, Dst, P, Src};
