@@ -1,7 +1,7 @@
-use wb_asm::{AsmError, AsmFault, AsmKind, assemble};
 use std::alloc::Global;
 use std::process::Abort;
 use std::test::Fail;
+use wb_asm::{AsmError, AsmFault, AsmKind, assemble};
 use wb_rom::Image;
 
 /// A source, and the first words of the program and of the data that it gives.

@@ -1,6 +1,6 @@
-use wb_dis::{disassemble, line_of};
 use std::process::Abort;
 use std::test::Fail;
+use wb_dis::{disassemble, line_of};
 use wb_rom::{Image, Rom};
 use wb_word::Word;
 

@@ -1,8 +1,8 @@
 //! Texts that were cut by hand.
-use wb_lex::{LexFault, TokenKind, each_text_has_one_answer, lex};
 use std::alloc::Global;
 use std::process::Abort;
 use std::test::Fail;
+use wb_lex::{LexFault, TokenKind, each_text_has_one_answer, lex};
 
 // A token by its kind, its line, its start and its end.
 type Row = (TokenKind, u32, usize, usize);

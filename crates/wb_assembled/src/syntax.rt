@@ -1,12 +1,12 @@
 //! Lines that were read by hand.
-use wb_syntax::{
-    Body, Expr, Node, Source, Span, Statement, SyntaxFault, expressions_are_read_in_one_way, parse,
-    statements_are_read_in_one_way,
-};
 use std::alloc::Global;
 use std::process::Abort;
 use std::test::Fail;
 use wb_lex::lex;
+use wb_syntax::{
+    Body, Expr, Node, Source, Span, Statement, SyntaxFault, expressions_are_read_in_one_way, parse,
+    statements_are_read_in_one_way,
+};
 use wb_word::{Acc, Alu, Cond, Dpl, Dst, OpWord, P, Src};
 
 // The statements of a text, or its first bad line.

@@ -1,8 +1,8 @@
 // Worked comparisons of small images: what each comes to, with the dialogue that shows it.
-use wb_compare::{Pace, Question, Spent, Verdict, compare};
 use std::alloc::Global;
 use std::process::Abort;
 use std::test::Fail;
+use wb_compare::{Pace, Question, Spent, Verdict, compare};
 use wb_explore::Budget;
 use wb_port::{Access, Dialogue, Letter, Power, Shape};
 use wb_query::SolverOracle;

@@ -5,10 +5,10 @@ ghost use Rattle.wb_term.specs.Terms.{HasWord, HasBit};
 ghost use Rattle.wb_term.specs.Growth.{Grown, AddsAtMost};
 ghost use Rattle.wb_replies.specs.Circuits.{IsCircuit};
 
-use wb_replies::{ReplyCircuit, differ, differing_access};
 use std::test::Fail;
 use wb_make::{mk_byte, mk_const, mk_known, mk_pick};
 use wb_port::Access;
+use wb_replies::{ReplyCircuit, differ, differing_access};
 use wb_term::{BitId, Graph, Inputs, OutOfMemory, Scratch, WordId};
 use wb_word::Rom;
 

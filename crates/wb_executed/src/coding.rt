@@ -1,10 +1,9 @@
 ghost use Rattle.std.specs.Prelude.{◌≡◌, ◌<◌};
 
-use super::{decode, encode};
-use wb_word::codes::{Acc, Alu, Dpl, Dst, P, Src};
-use wb_word::conditions::Cond;
-use wb_word::numbers::{Addr, Nibble, OtherCode, Spare, Word};
-use wb_word::words::{Instr, OpWord};
+use wb_word::{
+    Acc, Addr, Alu, Cond, Dpl, Dst, Instr, Nibble, OpWord, OtherCode, P, Spare, Src, Word, decode,
+    encode,
+};
 
 // The fields of the word 000000.
 fn idle() -> OpWord {

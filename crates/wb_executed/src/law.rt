@@ -20,7 +20,7 @@ const LOOP: &[u32] = &[
 ];
 
 // A byte is given back, and the chip waits for it in a loop of eight words.
-pub(crate) const EIGHT_WORDS: &[u32] = &[
+const EIGHT_WORDS: &[u32] = &[
     0xC10007, 0x000080, 0, 0, 0, 0, 0, 0, 0, 0x97C008, 0x000091, 0x000016, 0x97C030, 0xA00004,
 ];
 

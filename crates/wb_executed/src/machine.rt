@@ -1,13 +1,13 @@
 mod branches;
 mod steps;
 
-use wb_machine::{Machine, Regs};
 use branches::JUMPS;
 use std::alloc::Global;
 use std::process::Abort;
 use std::test::Fail;
 use steps::ROWS;
 use wb_alu::Flags;
+use wb_machine::{Machine, Regs};
 use wb_rom::Image;
 use wb_word::OutOfMemory;
 

@@ -1,13 +1,13 @@
 mod points;
 mod runs;
 
+use std::alloc::Global;
+use std::process::Abort;
+use std::test::Fail;
 use wb_port::{
     Access, Chip, Dialogue, Event, Letter, Run, Shape, Side, follow, is_poll, points_passed,
     replay, requested, to_gate,
 };
-use std::alloc::Global;
-use std::process::Abort;
-use std::test::Fail;
 use wb_rom::Image;
 use wb_word::Addr;
 

@@ -1,7 +1,5 @@
-use wb_word::codes::{Acc, Alu, Dpl, Dst, P, Src};
-use wb_word::conditions::Cond;
-use wb_word::table::Rom;
 use std::test::Fail;
+use wb_word::{Acc, Alu, Cond, Dpl, Dst, P, Rom, Src};
 
 // The codes count from 0 upwards, so each list has its variants in the order of their codes.
 

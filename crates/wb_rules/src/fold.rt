@@ -3,9 +3,12 @@ ghost use Rattle.wb_term.specs.Terms.{Terms, HasWord, HasBit};
 ghost use Rattle.wb_fold.specs.Flags.{HasFlags};
 ghost use Rattle.wb_fold.specs.Ram.{HasWords};
 
-use wb_fold::*;
 use std::alloc::Global;
 use std::test::Fail;
+use wb_fold::{
+    OutOfMemory, Pages, SymFlags, alu_terms, mk_byte, mk_const, mk_known, pages_merge,
+    pages_select, pages_store, ram_select, ram_store,
+};
 use wb_term::{BitId, Graph, Inputs, Scratch, WordId};
 use wb_word::{Alu, Rom};
 

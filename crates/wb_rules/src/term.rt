@@ -1,10 +1,10 @@
 ghost use Rattle.std.specs.Prelude.{◌≡◌, IfOk, []};
 ghost use Rattle.wb_term.specs.Terms.{Terms, HasWord, HasBit, IsWordPlaced, IsBitPlaced};
 
-use wb_term::*;
 use std::alloc::Global;
 use std::process::Abort;
 use std::test::Fail;
+use wb_term::{BitId, BitNode, Graph, Inputs, Node, OutOfMemory, Scratch, Table, WordId, WordNode};
 use wb_word::{Rom, Side};
 
 fn graph_of(alloc: Global, word: u16) -> Result<Graph, OutOfMemory>

@@ -2,11 +2,8 @@
 ghost use Rattle.std.specs.Prelude.{◌≡◌, ◌≤◌, [], IfOk, length};
 ghost use Rattle.wb_term.specs.Terms.{Terms, HasWord, HasBit, IsWordPlaced, IsBitPlaced};
 
-use wb_blast::*;
-use wb_blast::bitwise::constant_word;
-use wb_blast::words::add_words;
 use std::test::Fail;
-use wb_equal::{Sharing, negation, xor};
+use wb_blast::{Blasted, Entry, Place, blast, blast_many, count_gates};
 use wb_gate::{Gate, GateFault, Goal, Lit};
 use wb_term::{BitId, BitNode, Graph, Inputs, Scratch, Table, WordId, WordNode};
 use wb_word::{OutOfMemory, Rom};
@@ -65,15 +62,29 @@ fn the_limit_is_the_gate_number(rt: HostRuntime) -> Result<(), Fail> {
     Ok(())
 }
 
+/// The bit that is true where a sum of two constants and a carry, cut to 16 bits, has this value.
+fn sum_of_constants(rt: &HostRuntime, value: u16) -> Result<(Graph, BitId), OutOfMemory>
+    ensures { IfOk result (λ made. HasBit made.0 made.1) }
+{
+    let mut graph = empty_graph(rt)?;
+    let x = graph.word(WordNode::Const(0xFFFE))?;
+    let y = graph.word(WordNode::Const(0x0123))?;
+    let carry = graph.bit(BitNode::Known(true))?;
+    let sum = graph.word(WordNode::Sum(x, y, carry))?;
+    let wanted = graph.word(WordNode::Const(value))?;
+    let equal = graph.bit(BitNode::Same(sum, wanted))?;
+    Ok((graph, equal))
+}
+
 #[test]
 fn constants_make_no_gate(rt: HostRuntime) -> Result<(), Fail> {
-    let mut formula = Sharing::new(rt.alloc(), 0, 48, &[])?;
-    let x = constant_word(0xFFFE);
-    let y = constant_word(0x0123);
-    let (sum, carry) = add_words(&mut formula, &x, &y, Entry::T)?;
-    assert_eq!(rt; sum, constant_word(0x0122));
-    assert_eq!(rt; carry, Entry::T);
-    assert_eq!(rt; formula.into_formula().gates(), 0);
+    let sums = [(0x0122, Goal::Always), (0x0123, Goal::Never)];
+    for (value, goal) in sums {
+        let (graph, equal) = sum_of_constants(&rt, value)?;
+        let made = blast(rt.alloc(), &graph, equal, 1000)?;
+        assert_eq!(rt; made.formula.goal(), goal, "{value}");
+        assert_eq!(rt; made.formula.gates(), 0, "{value}");
+    }
     Ok(())
 }
 

@@ -1,8 +1,8 @@
 //! Derivations that were worked by hand.
-use wb_derive::{Check, CheckScratch, Clause, Derivation, Step, check};
 use std::alloc::Global;
 use std::process::Abort;
 use std::test::Fail;
+use wb_derive::{Check, CheckScratch, Clause, Derivation, Step, check};
 use wb_gate::{Formula, Gate, Goal, Lit};
 
 const X: Lit = Lit { var: 0, neg: false };

@@ -1,9 +1,9 @@
 ghost use Rattle.std.specs.Prelude.{IfOk};
 ghost use Rattle.wb_diagram.specs.Forest.{HasDiagram};
 
-use wb_diagram::*;
 use std::alloc::Global;
 use std::test::Fail;
+use wb_diagram::{Diagram, Diagrams, OutOfMemory, Refused};
 
 /// A function of three diagrams, by a number.
 fn made(

@@ -1,6 +1,6 @@
 //! Gates that are equal up to order and signs, and likely values by hand.
-use wb_equal::*;
 use std::test::Fail;
+use wb_equal::{Entry, Sharing, xor};
 use wb_gate::Lit;
 
 #[test]

@@ -1,7 +1,7 @@
 //! The clauses of every gate, written out by hand and held against truth tables.
-use wb_gate::{Formula, Gate, GateClause, GateFault, Goal, Lit};
 use std::process::Abort;
 use std::test::Fail;
+use wb_gate::{Formula, Gate, GateClause, GateFault, Goal, Lit};
 
 const X: Lit = Lit { var: 0, neg: false };
 

@@ -2,12 +2,12 @@
 ghost use Rattle.std.specs.Prelude.{◌≡◌, ◌<◌};
 ghost use Rattle.wb_gate.specs.Circuit.{NamesBelow};
 
-use wb_solve::{Answer, Values, solve};
 use std::alloc::Global;
 use std::process::Abort;
 use std::test::Fail;
 use wb_derive::{Check, CheckScratch, Derivation, check};
 use wb_gate::{Formula, Gate, Goal, Lit};
+use wb_solve::{Answer, Values, solve};
 
 const ALL: u64 = u64::MAX;
 

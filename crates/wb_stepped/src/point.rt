@@ -3,9 +3,12 @@ ghost use Rattle.wb_term.specs.Terms.{HasBit};
 ghost use Rattle.wb_symstep.specs.State.{IsSymState};
 ghost use Rattle.wb_point.specs.Shows.{SamePlace};
 
-use wb_point::*;
 use std::test::Fail;
 use wb_make::{mk_byte, mk_const, mk_pick};
+use wb_point::{
+    Accesses, FixedBit, FixedBits, OutOfMemory, Point, SymState, dialogue_of, inputs_of, merge,
+    normalise, same_key, same_place, shown,
+};
 use wb_port::{Access, Dialogue, Kind, Kinds, Power};
 use wb_term::{BitId, Graph, Inputs, Scratch};
 use wb_word::{Rom, Side};

@@ -6,12 +6,12 @@ ghost use Rattle.wb_symstep.specs.Stepped.{IsStepped};
 mod programs;
 mod worked;
 
-use wb_symport::*;
 use std::alloc::Global;
 use std::process::Abort;
 use std::test::Fail;
 use wb_make::{mk_byte, mk_const, mk_shl};
 use wb_rom::Image;
+use wb_symport::{OutOfMemory, Stepped, SymState, sym_read, sym_status, sym_write};
 use wb_symstep::sym_step;
 use wb_term::{Graph, Inputs, Scratch, WordId};
 use wb_word::{Rom, Side};

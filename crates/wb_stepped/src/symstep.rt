@@ -5,7 +5,6 @@ ghost use Rattle.wb_fold.specs.Flags.{HasFlags};
 ghost use Rattle.wb_symstep.specs.State.{IsSymState};
 ghost use Rattle.wb_symstep.specs.Stepped.{IsStepped};
 
-use wb_symstep::*;
 use std::alloc::Global;
 use std::process::Abort;
 use std::test::Fail;
@@ -14,6 +13,7 @@ use wb_fold::SymFlags;
 use wb_machine::{Machine, Regs};
 use wb_make::{mk_byte, mk_const};
 use wb_rom::Image;
+use wb_symstep::{OutOfMemory, Stepped, SymState, sym_step};
 use wb_term::{BitId, Graph, Inputs, Scratch, WordId};
 use wb_word::Side;
 

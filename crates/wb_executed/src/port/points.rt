@@ -1,9 +1,9 @@
 // The points of held runs, worked by hand from the words of the images.
 use super::{ECHO, R, S, WIDE, dialogue_of, image_of};
-use wb_port::{Access, Dialogue, Kind, Point, Shown, Side, points_passed};
 use std::alloc::Global;
 use std::process::Abort;
 use std::test::Fail;
+use wb_port::{Access, Dialogue, Kind, Point, Shown, Side, points_passed};
 
 /// A point of a run: the kinds, the count, PC, whether a request is asked, RQM and DRS.
 type Row = (&'static [Kind], u16, u16, bool, bool, bool);

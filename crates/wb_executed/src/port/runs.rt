@@ -1,8 +1,8 @@
 // Runs at the ends of ranges: addresses, paces, lengths.
 use super::{ECHO, S, Want, image_of, is_wanted};
-use wb_port::{Dialogue, Run, replay};
 use std::alloc::Global;
 use std::test::Fail;
+use wb_port::{Dialogue, Run, replay};
 use wb_rom::Image;
 
 /// A program that raises a request by its first and by its last word, and does nothing between.

@@ -9,7 +9,6 @@ ghost use Rattle.wb_symstep.specs.Stepped.{IsStepped};
 
 use super::programs::{Held, PROGRAMS, Program, ROUNDS};
 use super::{image, value_of};
-use wb_symport::{OutOfMemory, Stepped, SymState, sym_read, sym_write};
 use std::alloc::Global;
 use std::process::Abort;
 use std::test::Fail;
@@ -18,6 +17,7 @@ use wb_fold::SymFlags;
 use wb_machine::{Machine, Regs};
 use wb_port::{Access, Chip, Event};
 use wb_rom::Image;
+use wb_symport::{OutOfMemory, Stepped, SymState, sym_read, sym_write};
 use wb_symstep::sym_step;
 use wb_term::{BitId, Graph, Inputs, Scratch};
 use wb_word::Side;

@@ -1,7 +1,7 @@
-use wb_gen::make_pair;
 use std::alloc::Global;
 use std::process::Abort;
 use std::test::Fail;
+use wb_gen::make_pair;
 use wb_port::{Access, Dialogue, Side, points_passed};
 use wb_rom::Image;
 use wb_word::Addr;
