@@ -15,7 +15,7 @@ use crate::order::inputs_by_rank;
 use crate::places::Place;
 use crate::rows::Rows;
 use std::alloc::Global;
-use wb_equal::{Entry, Sharing};
+use wb_equal::{Entry, Rooms, Sharing};
 use wb_gate::{Formula, GateFault, Goal, clauses_say_the_gates, inputs_decide};
 use wb_term::{BitId, Graph};
 use wb_word::OutOfMemory;
@@ -112,6 +112,7 @@ fn blast_met(
     graph: &Graph,
     bits: &[BitId],
     limit: u64,
+    rooms: Rooms,
     met: Met,
 ) -> Result<Many, OutOfMemory>
     requires there { (k : ℕ) (bit : BitId) → slice_get bits.now k ≡ Some bit → HasBit graph.now bit }
@@ -122,7 +123,7 @@ fn blast_met(
 {
     let order = inputs_by_rank(alloc, met.places.as_slice())?;
     let inputs = met.places.len() as u32;
-    let formula = Sharing::new(alloc, inputs, limit, order.as_slice())?;
+    let formula = Sharing::within(alloc, inputs, limit, order.as_slice(), rooms)?;
     fill(alloc, graph, bits, met, formula)
 }
 
@@ -138,13 +139,29 @@ pub fn blast_many(
     ensures blasted { IfOk result (λ many. AreBlasted graph.now bits.now limit many.formula many.places.items many.entries.items) }
     ensures full { IfErr result (λ fault. fault ≡ GateFault.Full → IsOver graph.now bits.now limit) }
 {
+    many_within(alloc, graph, bits, limit, Rooms::default())
+}
+
+/// The formula of some bits, and what its diagrams may take.
+fn many_within(
+    alloc: Global,
+    graph: &Graph,
+    bits: &[BitId],
+    limit: u64,
+    rooms: Rooms,
+) -> Result<Many, GateFault>
+    requires there { (k : ℕ) (bit : BitId) → slice_get bits.now k ≡ Some bit → HasBit graph.now bit }
+    requires few { limit ≤ 2 ^ 31 }
+    ensures blasted { IfOk result (λ many. AreBlasted graph.now bits.now limit many.formula many.places.items many.entries.items) }
+    ensures full { IfErr result (λ fault. fault ≡ GateFault.Full → IsOver graph.now bits.now limit) }
+{
     let Ok(met) = walk(alloc, graph, bits) else {
         return Err(GateFault::OutOfMemory);
     };
     if met.weight > limit {
         return Err(GateFault::Full);
     }
-    let Ok(many) = blast_met(alloc, graph, bits, limit, met) else {
+    let Ok(many) = blast_met(alloc, graph, bits, limit, rooms, met) else {
         return Err(GateFault::OutOfMemory);
     };
     Ok(many)
@@ -172,10 +189,26 @@ pub fn blast(alloc: Global, graph: &Graph, bit: BitId, limit: u64) -> Result<Bla
     ensures blasted { IfOk result (λ made. IsBlasted graph.now bit limit made.formula made.places.items) }
     ensures full { IfErr result (λ fault. fault ≡ GateFault.Full → IsOver graph.now (bit ∷ []) limit) }
 {
+    blast_within(alloc, graph, bit, limit, Rooms::default())
+}
+
+/// The formula of a bit as `blast` makes it, and what its diagrams may take.
+pub fn blast_within(
+    alloc: Global,
+    graph: &Graph,
+    bit: BitId,
+    limit: u64,
+    rooms: Rooms,
+) -> Result<Blasted, GateFault>
+    requires there { HasBit graph.now bit }
+    requires few { limit ≤ 2 ^ 31 }
+    ensures blasted { IfOk result (λ made. IsBlasted graph.now bit limit made.formula made.places.items) }
+    ensures full { IfErr result (λ fault. fault ≡ GateFault.Full → IsOver graph.now (bit ∷ []) limit) }
+{
     clauses_say_the_gates();
     inputs_decide();
     let _nodes = graph.len();
-    let many = blast_many(alloc, graph, &[bit], limit)?;
+    let many = many_within(alloc, graph, &[bit], limit, rooms)?;
     let Many {
         mut formula,
         places,

@@ -3,7 +3,7 @@
 //! `count_gates` tells how many gates a bit may need. `blast` makes the formula of a bit: for all inputs it has an
 //! assignment that gives them exactly where the bit is true. With it come values of the inputs under which the bit is
 //! likely true, where its diagram was found. `blast_many` gives the entries of several bits in one
-//! formula.
+//! formula, and `blast_within` says what diagrams may take.
 //!
 //! An `Entry` is what one bit is in a formula, a `Word` what sixteen are, the lowest first. `blasting` has the
 //! formulas, `meeting` the walk that meets the nodes and numbers the inputs, `building` the rows of the nodes in order
@@ -32,8 +32,8 @@ mod rows;
 mod shifts;
 mod words;
 
-pub use blasting::{Blasted, Many, blast, blast_many};
+pub use blasting::{Blasted, Many, blast, blast_many, blast_within};
 pub use laws::{gate_numbers_agree, gate_numbers_are_light};
 pub use number::count_gates;
 pub use places::Place;
-pub use wb_equal::Entry;
+pub use wb_equal::{Entry, Room, Rooms};

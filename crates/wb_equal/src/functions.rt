@@ -10,6 +10,7 @@ ghost use Rattle.wb_equal.specs.Functions.{IsBoard, HasFunction, HasKnown, Says,
 
 use crate::entries::{Entry, minus};
 use crate::order::Order;
+use crate::rooms::Rooms;
 use indexmap::IndexMap;
 use std::alloc::Global;
 use std::marker::Model;
@@ -17,50 +18,11 @@ use wb_diagram::{Diagram, Diagrams, Refused, Turn};
 use wb_gate::{Gate, Lit};
 use wb_word::OutOfMemory;
 
-/// How many nodes the diagrams of a formula may have.
-const NODES: u32 = 1 << 22;
-
 /// How many choices between diagrams are kept.
 const PLACES: usize = 1 << 16;
 
-/// How many steps the diagrams of a formula may take.
-const STEPS: u32 = 20_000_000;
-
 /// A diagram that took no more steps is small, which saves counting its nodes.
 const FEW_STEPS: u32 = 16;
-
-/// What the diagram of a gate may take.
-#[derive(Clone, Copy, PartialEq, Eq, Debug)]
-pub struct Room {
-    /// How many steps it may take.
-    steps: u32,
-    /// With fewer nodes it stands for its variable in the diagrams of later gates.
-    nodes: u32,
-}
-
-impl Room {
-    /// Sums of unknown words and their carries grow faster than choices, so they get less.
-    fn of(gate: Gate) -> Self {
-        match gate {
-            Gate::And(..) | Gate::Mux(..) => Room {
-                steps: 200_000,
-                nodes: 100_000,
-            },
-            Gate::Xor(..) | Gate::Maj(..) => Room {
-                steps: 100_000,
-                nodes: 20_000,
-            },
-        }
-    }
-
-    /// Products of unknown words grow without end, so their gates stand for themselves at once.
-    fn of_plain() -> Self {
-        Room {
-            steps: 50,
-            nodes: 3,
-        }
-    }
-}
 
 /// A function and its negation.
 #[derive(Clone, Copy, PartialEq, Eq, Debug)]
@@ -105,6 +67,7 @@ pub struct Functions {
     variables: Vec<Known>,
     /// The variable of a function, by its key.
     numbers: IndexMap<Diagram, u32>,
+    rooms: Rooms,
     /// What is left of the formula's steps.
     steps: u32,
     /// What is left of the gate's steps.
@@ -128,18 +91,25 @@ impl Model for Functions {
 }
 
 impl Functions {
-    /// Those of so many inputs, each of which is itself, with the order in which diagrams ask for them.
-    pub fn of_inputs(alloc: Global, inputs: u32, order: &[u32]) -> Result<Self, OutOfMemory>
+    /// Those of so many inputs, each of which is itself, with the order in which diagrams ask for them and what they
+    /// may take.
+    pub fn of_inputs(
+        alloc: Global,
+        inputs: u32,
+        order: &[u32],
+        rooms: Rooms,
+    ) -> Result<Self, OutOfMemory>
         ensures few { IfOk result (λ functions. length functions.variables ≤ inputs) }
         ensures right { IfOk result (λ functions. (v : Assignment) → AreRight v functions) }
     {
         let mut functions = Functions {
             alloc,
-            diagrams: Diagrams::new(alloc, NODES, PLACES)?,
+            diagrams: Diagrams::new(alloc, rooms.all_nodes(), PLACES)?,
             order: Order::new(alloc, order)?,
             variables: Vec::new(alloc),
             numbers: IndexMap::new(alloc),
-            steps: STEPS,
+            rooms,
+            steps: rooms.steps,
             gate_steps: 0,
             spent: 0,
             nodes: 0,
@@ -156,14 +126,6 @@ impl Functions {
         ensures { self.new ≡ self.old }
     {
         self.plain = plain;
-    }
-
-    fn room_of(&self, gate: Gate) -> Room {
-        if self.plain {
-            Room::of_plain()
-        } else {
-            Room::of(gate)
-        }
     }
 
     fn known_at(&self, var: u32) -> Option<Known>
@@ -362,7 +324,7 @@ impl Functions {
         ensures value { IfSome result (IsFunctionOf self.new (λ v. gate_value v gate)) }
         ensures keeps { Keeps self.old self.new }
     {
-        let room = self.room_of(gate);
+        let room = self.rooms.room_of(gate, self.plain);
         let granted = self.steps.min(room.steps);
         self.gate_steps = granted;
         self.nodes = room.nodes;

@@ -6,7 +6,7 @@
 //!
 //! `entries` has the entries, which are constants or literals, and the gates over them; `sharing` the formula, and
 //! `functions` what its variables say, as diagrams over these variables; `order` has the order in which diagrams ask
-//! for them, and `likely` values under which an entry is likely true. `specs/Entries.antt` says what an entry means,
+//! for them, `rooms` what they may take, and `likely` values under which an entry is likely true. `specs/Entries.antt` says what an entry means,
 //! `specs/Functions.antt` and `specs/Order.antt` what the diagrams do.
 #![tactic(auto)]
 
@@ -14,7 +14,9 @@ mod entries;
 mod functions;
 mod likely;
 mod order;
+mod rooms;
 mod sharing;
 
 pub use entries::{Entry, and, majority, mux, negation, or, xor};
+pub use rooms::{Room, Rooms};
 pub use sharing::Sharing;

@@ -5,6 +5,7 @@ ghost use Rattle.wb_gate.specs.Growth.{Extends, IsLit};
 
 use crate::entries::Entry;
 use crate::functions::Functions;
+use crate::rooms::Rooms;
 use indexmap::IndexMap;
 use std::alloc::Global;
 use std::marker::Model;
@@ -50,8 +51,8 @@ impl Sharing {
     ghost use Rattle.wb_gate.specs.declared.gates.Goal.{Goal};
     ghost use Rattle.wb_equal.specs.Entries.{IsEntry};
 
-    /// A formula without gates. Its diagrams ask for the inputs in an order, which may be any list: an input that it
-    /// leaves out or names twice has no diagram.
+    /// A formula without gates, whose diagrams take what comparisons of firmware do well with. They ask for the inputs
+    /// in an order, which may be any list: an input that it leaves out or names twice has no diagram.
     pub fn new(
         alloc: Global,
         inputs: u32,
@@ -62,7 +63,22 @@ impl Sharing {
         requires few_gates { limit ≤ 2 ^ 31 }
         ensures { IfOk result (λ formula. formula ≡ record { inputs = inputs; limit = limit; gates = []; goal = Goal.Never }) }
     {
-        let functions = Functions::of_inputs(alloc, inputs, order)?;
+        Sharing::within(alloc, inputs, limit, order, Rooms::default())
+    }
+
+    /// A formula without gates, and what its diagrams may take.
+    pub fn within(
+        alloc: Global,
+        inputs: u32,
+        limit: u64,
+        order: &[u32],
+        rooms: Rooms,
+    ) -> Result<Sharing, OutOfMemory>
+        requires few_inputs { inputs ≤ 8192 }
+        requires few_gates { limit ≤ 2 ^ 31 }
+        ensures { IfOk result (λ formula. formula ≡ record { inputs = inputs; limit = limit; gates = []; goal = Goal.Never }) }
+    {
+        let functions = Functions::of_inputs(alloc, inputs, order, rooms)?;
         Ok(Sharing {
             formula: Formula::new(alloc, inputs, limit),
             numbers: IndexMap::new(alloc),

@@ -18,7 +18,7 @@ fn empty_graph(rt: &HostRuntime) -> Result<Graph, OutOfMemory>
 }
 
 /// A graph with two words and a bit of the inputs.
-fn three_nodes(rt: &HostRuntime) -> Result<(Graph, WordId, WordId, BitId), OutOfMemory>
+pub fn three_nodes(rt: &HostRuntime) -> Result<(Graph, WordId, WordId, BitId), OutOfMemory>
     ensures first { IfOk result (λ made. HasWord made.0 made.1) }
     ensures second { IfOk result (λ made. HasWord made.0 made.2) }
     ensures bit { IfOk result (λ made. HasBit made.0 made.3) }
@@ -111,7 +111,7 @@ fn gate_value(values: &[bool], gate: Gate) -> bool {
 }
 
 /// Whether the gate values of these inputs satisfy the formula.
-fn is_satisfied(
+pub fn is_satisfied(
     rt: &HostRuntime,
     made: &Blasted,
     bytes: &[u8],
@@ -164,7 +164,7 @@ fn a_byte_is_found(rt: HostRuntime) -> Result<(), Fail> {
 }
 
 /// A word node of each kind that has children.
-fn word_node(kind: u8, x: WordId, y: WordId, c: BitId) -> WordNode
+pub fn word_node(kind: u8, x: WordId, y: WordId, c: BitId) -> WordNode
     ensures { (g : Terms) → HasWord g x → HasWord g y → HasBit g c → IsWordPlaced g result }
 {
     match kind {
@@ -214,7 +214,7 @@ fn words_have_their_values(rt: HostRuntime) -> Result<(), Fail> {
 }
 
 /// A bit node of each kind that has children.
-fn bit_node(kind: u8, x: WordId, y: WordId, c: BitId, d: BitId) -> BitNode
+pub fn bit_node(kind: u8, x: WordId, y: WordId, c: BitId, d: BitId) -> BitNode
     ensures { (g : Terms) → HasWord g x → HasWord g y → HasBit g c → HasBit g d → IsBitPlaced g result }
 {
     match kind {

@@ -5,7 +5,7 @@ use Rattle.wb_equal.specs.declared.entries.Entry.{Entry}
 use Rattle.wb_blast.specs.Blasting.{IsBlasted, goal_of}
 use Rattle.wb_equal.specs.Entries.{EntryBelow}
 use Rattle.wb_blast.proofs.Finals.{blasted_is, first_entry}
-use Rattle.wb_blast.proofs.blasting.blast.Goals as goal
+use Rattle.wb_blast.proofs.blasting.blast_within.Goals as goal
 
 pub set_goal-requires : goal.set_goal-requires
 set_goal-requires c =
