@@ -1,5 +1,5 @@
 -- What stays of a board when diagrams are made, and what is known of its variables.
-use Rattle.std.proofs.Common.{◌≡◌, ℕ, ◌<◌, ◌≤◌, ◌+◌, arith, List, length, Bool, true, false, not, ◌&&◌, ◌||◌, if◌then◌else◌, Option, Some, None, IfSome, slice_get, refl, sym, ap, ◌∙◌}
+use Rattle.std.proofs.Common.{◌≡◌, ℕ, ◌<◌, ◌≤◌, arith, List, length, Bool, true, false, not, ◌&&◌, ◌||◌, if◌then◌else◌, Option, Some, None, IfSome, slice_get, refl, sym, ap, ◌∙◌}
 use Rattle.wb_diagram.specs.declared.nodes.Diagram.{Diagram}
 use Rattle.wb_diagram.specs.Forest.{Forest}
 use Rattle.wb_diagram.specs.Growth.{Grown}
@@ -11,7 +11,7 @@ use Rattle.wb_gate.specs.Growth.{Extends, IsLit}
 use Rattle.wb_equal.specs.declared.functions.Function.{Function}
 use Rattle.wb_equal.specs.declared.functions.Known.{Known}
 use Rattle.wb_equal.specs.Order.{named}
-use Rattle.wb_equal.specs.Functions.{Board, HasFunction, HasKnown, IsBoard, Says, SaysKnown, AreRight, AreOf, IsDiagramOf, IsFunctionOf, IsKnownOf, Keeps}
+use Rattle.wb_equal.specs.Functions.{Board, HasFunction, IsBoard, Says, AreRight, AreOf, IsDiagramOf, IsFunctionOf, IsKnownOf, Keeps}
 
 -- the board with other diagrams
 abbrev pub with_forest : Board → Forest → Board

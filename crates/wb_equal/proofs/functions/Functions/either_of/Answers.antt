@@ -1,5 +1,5 @@
-use Rattle.std.proofs.Common.{true, false, refl}
-use Rattle.wb_gate.specs.Circuit.{Assignment, lit_value}
+use Rattle.std.proofs.Common.{true}
+use Rattle.wb_gate.specs.Circuit.{lit_value}
 use Rattle.wb_equal.proofs.Boards.{chosen, either_is}
 use Rattle.wb_equal.proofs.functions.Functions.either_of.Goals as goal
 

@@ -1,5 +1,5 @@
 use Rattle.std.proofs.Common.{◌&&◌, ◌||◌}
-use Rattle.wb_gate.specs.Circuit.{Assignment, lit_value}
+use Rattle.wb_gate.specs.Circuit.{lit_value}
 use Rattle.wb_equal.proofs.Boards.{chosen, kept, most_is}
 use Rattle.wb_equal.proofs.functions.Functions.majority_of.Goals as goal
 
