@@ -116,7 +116,7 @@ const JUMPS: [(u32, &str); 36] = [
 
 fn check(rt: &impl Abort, rows: &[(u32, &str)]) {
     for (value, text) in rows {
-        let line = Word::new(*value).map(line_of);
+        let line = Word::new(*value).map(|word| line_of(word));
         assert_eq!(rt; line.as_ref().map(|line| line.as_str()), Some(*text));
     }
 }

@@ -5,6 +5,6 @@ use Rattle.wb_term.specs.declared.nodes.BitId.{BitId}
 
 -- all of them are there
 pub record AreThere (terms : Terms) (x y : WordId) (c : BitId) : Type 0 where
-  pub x : HasWord terms x
-  pub y : HasWord terms y
-  pub c : HasBit terms c
+  pub first : HasWord terms x
+  pub second : HasWord terms y
+  pub bit : HasBit terms c

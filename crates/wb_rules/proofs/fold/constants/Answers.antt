@@ -1,5 +1,5 @@
 use Rattle.wb_fold.proofs.MergeLaws.{listing_more}
-use Rattle.wb_fold.proofs.tests.constants.Goals as goal
+use Rattle.wb_rules.proofs.fold.constants.Goals as goal
 
 pub loop-at-preserved : goal.loop-at-preserved
 loop-at-preserved c =
