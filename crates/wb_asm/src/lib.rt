@@ -32,4 +32,3 @@ pub use laws::{each_source_has_one_answer, images_are_placings, placings_are_one
 pub use layout::Layout;
 pub use names::Names;
 pub use spaces::Space;
-

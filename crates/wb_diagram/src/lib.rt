@@ -27,4 +27,3 @@ pub use laws::paths_are_true;
 pub use nodes::{Choice, Diagram, Node, Turn};
 pub use refused::Refused;
 pub use wb_word::OutOfMemory;
-

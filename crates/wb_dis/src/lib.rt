@@ -14,4 +14,3 @@ mod listings;
 pub use laws::{lines_tell_words_apart, listings_assemble};
 pub use lines::{TextLine, line_of};
 pub use listings::disassemble;
-

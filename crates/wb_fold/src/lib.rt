@@ -28,4 +28,3 @@ pub use wb_make::{
     mk_shr, mk_sum, mk_xor, mk_xorb,
 };
 pub use wb_term::OutOfMemory;
-

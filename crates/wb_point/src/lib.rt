@@ -25,4 +25,3 @@ pub use question::{Accesses, FixedBit, FixedBits, Query};
 pub use wb_law::{Class, class_at, rank_at};
 pub use wb_port::{Point, Points, Shown};
 pub use wb_symstep::{OutOfMemory, SymState};
-

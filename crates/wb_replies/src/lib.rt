@@ -21,4 +21,3 @@ pub use gathering::replies;
 pub use laws::{
     circuits_stay, differences_are_of_replies, differences_are_shown, differences_say_questions,
 };
-

@@ -13,4 +13,3 @@ mod status;
 
 pub use port::{sym_read, sym_status, sym_write};
 pub use wb_symstep::{OutOfMemory, Stepped, SymState};
-

@@ -37,4 +37,3 @@ pub use state::SymState;
 pub use step::sym_step;
 pub use stepped::Stepped;
 pub use wb_fold::{OutOfMemory, Pages};
-

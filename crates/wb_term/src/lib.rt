@@ -23,4 +23,3 @@ pub use laws::values_agree;
 pub use nodes::{BitId, BitNode, Node, Table, WordId, WordNode};
 pub use scratch::Scratch;
 pub use wb_word::OutOfMemory;
-

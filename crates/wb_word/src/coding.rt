@@ -110,4 +110,3 @@ fn operation_bits(op: &OpWord) -> u32
         + (op.src.code() << 4)
         + op.dst.code()
 }
-
