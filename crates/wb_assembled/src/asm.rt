@@ -1,3 +1,4 @@
+use crate::repeated::repeated;
 use std::alloc::Global;
 use std::process::Abort;
 use std::test::Fail;
@@ -145,21 +146,15 @@ fn the_first_fault_is_told(rt: HostRuntime) {
     expect_faults(&rt, rt.alloc(), &FAULTS);
 }
 
-/// So many lines that do nothing.
-fn idle_lines(alloc: Global, count: usize) -> Result<Vec<u8>, Fail> {
-    let mut text = Vec::new(alloc);
-    for _ in 0..count {
-        text.extend_from_slice(b"nop\n")?;
-    }
-    Ok(text)
-}
+/// A line that does nothing.
+const IDLE: &[u8] = b"nop\n";
 
 #[test]
 fn too_many_words(rt: HostRuntime) -> Result<(), Fail> {
-    let most = idle_lines(rt.alloc(), 2048)?;
+    let most = repeated(rt.alloc(), IDLE, 2048)?;
     assert!(rt; most.len() == 8192);
     assert!(rt; assemble(rt.alloc(), &most).is_ok());
-    let more = idle_lines(rt.alloc(), 2049)?;
+    let more = repeated(rt.alloc(), IDLE, 2049)?;
     let past = AsmFault {
         line: 2049,
         kind: AsmKind::Past,

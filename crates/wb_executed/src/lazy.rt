@@ -1,4 +1,5 @@
 // Schedules of lazy hosts, event by event, beside the run of the eager host that holds the same talk.
+use crate::port::image_of;
 use std::alloc::Global;
 use std::process::Abort;
 use std::test::Fail;
@@ -41,16 +42,6 @@ const HALVES: [Turn; 4] = [
     (Access::Read, 0x80, Some(0x34)),
     (Access::Read, 0x90, Some(0x12)),
 ];
-
-/// The image with these words, and zeros after them.
-pub(crate) fn image_of(alloc: Global, words: &[u32]) -> Result<Image, Fail> {
-    let mut bytes = Vec::new(alloc);
-    for word in words {
-        bytes.extend_from_slice(&word.to_le_bytes()[..3])?;
-    }
-    bytes.resize(8192, 0)?;
-    Ok(Image::from_bytes(alloc, &bytes)?)
-}
 
 /// A schedule so far: the chip after it, its talk, and what it said.
 #[derive(Drop)]

@@ -115,7 +115,7 @@ const CASES: [Case; 22] = [
 ];
 
 /// The image with these words, and zeros after them.
-fn image_of(alloc: Global, words: &[u32]) -> Result<Image, Fail> {
+pub fn image_of(alloc: Global, words: &[u32]) -> Result<Image, Fail> {
     let mut bytes = Vec::new(alloc);
     for word in words {
         bytes.extend_from_slice(&word.to_le_bytes()[..3])?;

@@ -1,16 +1,21 @@
-//! Tests of the explorer against plain enumeration, in a crate of their own, so that the explorer is proved once and
-//! not again for its tests.
+//! Tests of the explorer, beside dialogues that are tried one by one, and of comparisons: replies told apart, and
+//! verdicts on small images. They stand in a crate of their own, so that the explorer and the comparison are proved
+//! once and not again for their tests.
 //!
 //! `exploring` leads an exploration through the kinds of a dialogue, one transfer after the other; `counting` counts
-//! how often an oracle is asked. In `tests`, `cases`
-//! has the programs, `enumeration` the dialogues that are tried one by one, `points` and `requests` compare what the
-//! explorer found with what these dialogues do, and `oracles` has oracles that spend, and that lie.
+//! how often an oracle is asked. `explore`, `replies` and `compare` have tests of the crates of these names. In
+//! `tests`, `cases` has the programs, `enumeration` the dialogues that are tried one by one, `points` and `requests`
+//! compare what the explorer found with what these dialogues do, and `oracles` has oracles that spend, and that lie.
 #![tactic(auto)]
 
+#[cfg(test)]
+mod compare;
 mod counting;
 #[cfg(test)]
 mod explore;
 mod exploring;
+#[cfg(test)]
+mod replies;
 #[cfg(test)]
 mod tests;
 

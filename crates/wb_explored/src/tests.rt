@@ -3,7 +3,7 @@ ghost use Rattle.std.specs.Prelude.{◌≤◌, IfOk};
 ghost use Rattle.wb_explore.specs.Layers.{IsLayer};
 
 mod cases;
-mod enumeration;
+pub mod enumeration;
 mod oracles;
 mod points;
 mod requests;

@@ -1,42 +1,19 @@
 //! Gate numbers added up by hand, circuits over constants and over inputs, and the formula of each kind of node.
-ghost use Rattle.std.specs.Prelude.{◌≡◌, ◌≤◌, [], IfOk, length};
-ghost use Rattle.wb_term.specs.Terms.{Terms, HasWord, HasBit, IsWordPlaced, IsBitPlaced};
+ghost use Rattle.std.specs.Prelude.{IfOk};
+ghost use Rattle.wb_term.specs.Terms.{HasBit};
 
+use crate::nodes::{bit_node, empty_graph, three_nodes, word_node};
 use std::test::Fail;
 use wb_blast::{Blasted, Entry, Place, blast, blast_many, count_gates};
 use wb_gate::{Gate, GateFault, Goal, Lit};
-use wb_term::{BitId, BitNode, Graph, Inputs, Scratch, Table, WordId, WordNode};
-use wb_word::{OutOfMemory, Rom};
-
-fn empty_graph(rt: &HostRuntime) -> Result<Graph, OutOfMemory>
-    ensures { IfOk result (λ graph. graph.nodes ≡ []) }
-{
-    let mut a = Rom::zero(rt.alloc())?;
-    a.set(2, 0x1234);
-    let b = Rom::zero(rt.alloc())?;
-    Graph::new(rt.alloc(), &a, &b)
-}
-
-/// A graph with two words and a bit of the inputs.
-pub fn three_nodes(rt: &HostRuntime) -> Result<(Graph, WordId, WordId, BitId), OutOfMemory>
-    ensures first { IfOk result (λ made. HasWord made.0 made.1) }
-    ensures second { IfOk result (λ made. HasWord made.0 made.2) }
-    ensures bit { IfOk result (λ made. HasBit made.0 made.3) }
-    ensures few { IfOk result (λ made. length made.0.nodes ≤ 4) }
-{
-    let mut graph = empty_graph(rt)?;
-    let byte = graph.word(WordNode::Byte(15))?;
-    let bit = graph.bit(BitNode::Pick(byte, 7))?;
-    let first = graph.word(WordNode::Cell(255))?;
-    let second = graph.word(WordNode::Cell(7))?;
-    Ok((graph, first, second, bit))
-}
+use wb_term::{BitId, BitNode, Graph, Scratch, WordNode};
+use wb_word::OutOfMemory;
 
 /// The bit that is true where two words have no bit in common.
 fn apart(rt: &HostRuntime) -> Result<(Graph, BitId), OutOfMemory>
     ensures { IfOk result (λ made. HasBit made.0 made.1) }
 {
-    let (mut graph, x, y, _) = three_nodes(rt)?;
+    let (mut graph, x, y, _) = three_nodes(rt.alloc())?;
     let both = graph.word(WordNode::And(x, y))?;
     let twice = graph.word(WordNode::Xor(both, both))?;
     let equal = graph.bit(BitNode::Same(both, twice))?;
@@ -66,7 +43,7 @@ fn the_limit_is_the_gate_number(rt: HostRuntime) -> Result<(), Fail> {
 fn sum_of_constants(rt: &HostRuntime, value: u16) -> Result<(Graph, BitId), OutOfMemory>
     ensures { IfOk result (λ made. HasBit made.0 made.1) }
 {
-    let mut graph = empty_graph(rt)?;
+    let mut graph = empty_graph(rt.alloc())?;
     let x = graph.word(WordNode::Const(0xFFFE))?;
     let y = graph.word(WordNode::Const(0x0123))?;
     let carry = graph.bit(BitNode::Known(true))?;
@@ -143,7 +120,7 @@ pub fn is_satisfied(
 fn byte_question(rt: &HostRuntime) -> Result<(Graph, BitId), OutOfMemory>
     ensures { IfOk result (λ made. HasBit made.0 made.1) }
 {
-    let mut graph = empty_graph(rt)?;
+    let mut graph = empty_graph(rt.alloc())?;
     let byte = graph.word(WordNode::Byte(0))?;
     let wanted = graph.word(WordNode::Const(0x00C3))?;
     let equal = graph.bit(BitNode::Same(byte, wanted))?;
@@ -163,29 +140,9 @@ fn a_byte_is_found(rt: HostRuntime) -> Result<(), Fail> {
     Ok(())
 }
 
-/// A word node of each kind that has children.
-pub fn word_node(kind: u8, x: WordId, y: WordId, c: BitId) -> WordNode
-    ensures { (g : Terms) → HasWord g x → HasWord g y → HasBit g c → IsWordPlaced g result }
-{
-    match kind {
-        0 => WordNode::Not(x),
-        1 => WordNode::And(x, y),
-        2 => WordNode::Or(x, y),
-        3 => WordNode::Xor(x, y),
-        4 => WordNode::Sum(x, y, c),
-        5 => WordNode::Diff(x, y, c),
-        6 => WordNode::Ite(c, x, y),
-        7 => WordNode::Shl(x, 15),
-        8 => WordNode::Shr(x, 7),
-        9 => WordNode::High(x, y),
-        10 => WordNode::Low(x, y),
-        _ => WordNode::Look(Table::First, y),
-    }
-}
-
 /// The bit that is true where a word node has a value.
 fn has_value(rt: &HostRuntime, kind: u8, value: u16) -> Result<Blasted, Fail> {
-    let (mut graph, x, y, c) = three_nodes(rt)?;
+    let (mut graph, x, y, c) = three_nodes(rt.alloc())?;
     let node = graph.word(word_node(kind, x, y, c))?;
     let known = graph.word(WordNode::Const(value))?;
     let same = graph.bit(BitNode::Same(node, known))?;
@@ -213,27 +170,9 @@ fn words_have_their_values(rt: HostRuntime) -> Result<(), Fail> {
     Ok(())
 }
 
-/// A bit node of each kind that has children.
-pub fn bit_node(kind: u8, x: WordId, y: WordId, c: BitId, d: BitId) -> BitNode
-    ensures { (g : Terms) → HasWord g x → HasWord g y → HasBit g c → HasBit g d → IsBitPlaced g result }
-{
-    match kind {
-        0 => BitNode::Pick(x, 15),
-        1 => BitNode::NotB(d),
-        2 => BitNode::AndB(c, d),
-        3 => BitNode::OrB(c, d),
-        4 => BitNode::XorB(c, d),
-        5 => BitNode::IteB(d, d, c),
-        6 => BitNode::Same(x, x),
-        7 => BitNode::Carry(x, y, c),
-        8 => BitNode::Borrow(x, y, c),
-        _ => BitNode::Known(true),
-    }
-}
-
 /// The formula of a bit of a kind.
 fn bit_of(rt: &HostRuntime, kind: u8) -> Result<Blasted, Fail> {
-    let (mut graph, x, y, c) = three_nodes(rt)?;
+    let (mut graph, x, y, c) = three_nodes(rt.alloc())?;
     let d = graph.bit(BitNode::Pick(x, 1))?;
     let bit = graph.bit(bit_node(kind, x, y, c, d))?;
     Ok(blast(rt.alloc(), &graph, bit, 1000)?)
@@ -260,7 +199,7 @@ fn two_bits(rt: &HostRuntime) -> Result<(Graph, BitId, BitId), OutOfMemory>
     ensures first { IfOk result (λ made. HasBit made.0 made.1) }
     ensures second { IfOk result (λ made. HasBit made.0 made.2) }
 {
-    let mut graph = empty_graph(rt)?;
+    let mut graph = empty_graph(rt.alloc())?;
     let byte = graph.word(WordNode::Byte(3))?;
     let top = graph.bit(BitNode::Pick(byte, 7))?;
     let low = graph.bit(BitNode::Pick(byte, 0))?;
@@ -282,7 +221,7 @@ fn equal_bits_have_equal_entries(rt: HostRuntime) -> Result<(), Fail> {
 fn both_orders(rt: &HostRuntime) -> Result<(Graph, BitId), OutOfMemory>
     ensures { IfOk result (λ made. HasBit made.0 made.1) }
 {
-    let (mut graph, x, y, _) = three_nodes(rt)?;
+    let (mut graph, x, y, _) = three_nodes(rt.alloc())?;
     let product = graph.word(WordNode::Low(x, y))?;
     let turned = graph.word(WordNode::Low(y, x))?;
     let equal = graph.bit(BitNode::Same(product, turned))?;

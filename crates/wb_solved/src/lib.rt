@@ -2,8 +2,8 @@
 //! equal gates, and circuits of words.
 //!
 //! They stand in a crate of their own, so that the crates that they call are proved once and not again for their
-//! tests. Each module has the name of the crate whose calls it tests; `rooms` has random terms whose diagrams may take
-//! little.
+//! tests. Each test module has the name of the crate whose calls it tests; `rooms` has random terms whose diagrams may
+//! take little. `nodes` has small graphs and a node of each kind, `draws` what looks random.
 #![tactic(auto)]
 
 #[cfg(test)]
@@ -12,11 +12,16 @@ mod blast;
 mod derive;
 #[cfg(test)]
 mod diagram;
+mod draws;
 #[cfg(test)]
 mod equal;
 #[cfg(test)]
 mod gate;
+mod nodes;
 #[cfg(test)]
 mod rooms;
 #[cfg(test)]
 mod solve;
+
+pub use draws::Draws;
+pub use nodes::{bit_node, empty_graph, three_nodes, word_node};

@@ -1,5 +1,7 @@
 //! Random terms of fixed seeds have their values whatever their diagrams may take.
-use crate::blast::{bit_node, is_satisfied, three_nodes, word_node};
+use crate::blast::is_satisfied;
+use crate::draws::Draws;
+use crate::nodes::{bit_node, three_nodes, word_node};
 use std::marker::Model;
 use std::test::Fail;
 use wb_blast::{Room, Rooms, blast_within};
@@ -25,22 +27,14 @@ impl Model for Term {
     ghost invariant = { λ term. AreThere term.graph term.x term.y term.c };
 }
 
-/// The next number below a bound, of a row that looks random.
-fn draw(seed: &mut u64, bound: u64) -> u64 {
-    *seed = seed
-        .wrapping_mul(6_364_136_223_846_793_005)
-        .wrapping_add(1_442_695_040_888_963_407);
-    (*seed >> 33) % bound.max(1)
-}
-
 /// One random word and one random bit more, neither of which is looked up in a table.
-fn grown(term: Term, seed: &mut u64) -> Result<Term, Fail> {
+fn grown(term: Term, draws: &mut Draws) -> Result<Term, Fail> {
     let Term { mut graph, x, y, c } = term;
     if graph.len() > 1000 {
         return Err("the graph is large".into());
     }
-    let word = graph.word(word_node(draw(seed, 11) as u8, x, y, c))?;
-    let bit = graph.bit(bit_node(draw(seed, 9) as u8, word, x, c, c))?;
+    let word = graph.word(word_node(draws.below(11) as u8, x, y, c))?;
+    let bit = graph.bit(bit_node(draws.below(9) as u8, word, x, c, c))?;
     Ok(Term {
         graph,
         x: word,
@@ -50,11 +44,11 @@ fn grown(term: Term, seed: &mut u64) -> Result<Term, Fail> {
 }
 
 /// A term of six random words and bits.
-fn random_term(rt: &HostRuntime, seed: &mut u64) -> Result<Term, Fail> {
-    let (graph, x, y, c) = three_nodes(rt)?;
+fn random_term(rt: &HostRuntime, draws: &mut Draws) -> Result<Term, Fail> {
+    let (graph, x, y, c) = three_nodes(rt.alloc())?;
     let mut term = Term { graph, x, y, c };
     for _ in 0..6 {
-        term = grown(term, seed)?;
+        term = grown(term, draws)?;
     }
     Ok(term)
 }
@@ -86,16 +80,16 @@ fn rooms(at: usize) -> Rooms {
 }
 
 /// Whether the bit has the value of its formula under random inputs.
-fn holds(rt: &HostRuntime, term: &Term, rooms: Rooms, seed: &mut u64) -> Result<bool, Fail> {
+fn holds(rt: &HostRuntime, term: &Term, rooms: Rooms, draws: &mut Draws) -> Result<bool, Fail> {
     let made = blast_within(rt.alloc(), &term.graph, term.c, 1 << 20, rooms)?;
     let mut scratch = Scratch::for_graph(rt.alloc(), &term.graph)?;
     let mut bytes = [0u8; 16];
     let mut cells = [0u16; 256];
     let mut holds = true;
     for _ in 0..8 {
-        bytes[15] = draw(seed, 256) as u8;
-        cells[7] = draw(seed, 65536) as u16;
-        cells[255] = draw(seed, 65536) as u16;
+        bytes[15] = draws.below(256) as u8;
+        cells[7] = draws.below(65536) as u16;
+        cells[255] = draws.below(65536) as u16;
         let inputs = Inputs::new(rt.alloc(), &bytes, &cells)?;
         let value = term.graph.value_bit(term.c, &inputs, &mut scratch);
         holds &= is_satisfied(rt, &made, &bytes, &cells)? == value;
@@ -105,11 +99,11 @@ fn holds(rt: &HostRuntime, term: &Term, rooms: Rooms, seed: &mut u64) -> Result<
 
 #[test]
 fn values_hold_past_each_limit(rt: HostRuntime) -> Result<(), Fail> {
-    let mut seed = 7725;
+    let mut draws = Draws { state: 7725 };
     for round in 0..28 {
-        let term = random_term(&rt, &mut seed)?;
+        let term = random_term(&rt, &mut draws)?;
         let rooms = rooms(round % 7);
-        assert!(rt; holds(&rt, &term, rooms, &mut seed)?, "{round}");
+        assert!(rt; holds(&rt, &term, rooms, &mut draws)?, "{round}");
     }
     Ok(())
 }

@@ -6,7 +6,7 @@ use wb_port::{Access, Dialogue, Kind};
 use wb_rom::Image;
 
 /// A program of these words.
-pub(super) fn image_of(alloc: Global, words: &[u32]) -> Result<Image, Fail> {
+pub(crate) fn image_of(alloc: Global, words: &[u32]) -> Result<Image, Fail> {
     let mut bytes = Vec::new(alloc);
     for word in words {
         bytes.extend_from_slice(&word.to_le_bytes()[..3])?;

@@ -1,4 +1,4 @@
-use Rattle.wb_stepped.proofs.symport.worked.+answered.Given as goal
+use Rattle.wb_executed.proofs.symport.worked.+answered.Given as goal
 
 abbrev pub decreases-answered : goal.decreases-answered
 decreases-answered g l = l.most

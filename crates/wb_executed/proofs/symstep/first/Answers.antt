@@ -1,5 +1,5 @@
 use Rattle.wb_symstep.proofs.Growth.{◌▸◌}
-use Rattle.wb_stepped.proofs.symstep.first.Goals as goal
+use Rattle.wb_executed.proofs.symstep.first.Goals as goal
 
 pub returns-in_err-sr-clause-grown : goal.returns-in_err-sr-clause-grown
 returns-in_err-sr-clause-grown c = c.mk_byte.ensures.grown ▸ c.mk_const.ensures.grown

@@ -1,5 +1,5 @@
 use Rattle.wb_symstep.proofs.States.{IsSymState-kept}
-use Rattle.wb_stepped.proofs.symstep.execute.Goals as goal
+use Rattle.wb_executed.proofs.symstep.execute.Goals as goal
 
 pub returns-clause-state : goal.returns-clause-state
 returns-clause-state g c =

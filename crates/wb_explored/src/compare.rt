@@ -1,4 +1,5 @@
 // Worked comparisons of small images: what each comes to, with the dialogue that shows it.
+use crate::tests::enumeration::image_of;
 use std::alloc::Global;
 use std::process::Abort;
 use std::test::Fail;
@@ -406,16 +407,6 @@ const ROWS: [Row; 23] = [
         wanted: Wanted::Different(&[Access::Write(0x55), Access::Read]),
     },
 ];
-
-/// The image with these words, and zeros after them.
-fn image_of(alloc: Global, words: &[u32]) -> Result<Image, Fail> {
-    let mut bytes = Vec::new(alloc);
-    for word in words {
-        bytes.extend_from_slice(&word.to_le_bytes()[..3])?;
-    }
-    bytes.resize(8192, 0)?;
-    Ok(Image::from_bytes(alloc, &bytes)?)
-}
 
 fn is_wanted(verdict: &Verdict, wanted: &Wanted) -> bool {
     match (verdict, wanted) {

@@ -1,6 +1,6 @@
 use Rattle.wb_symstep.proofs.States.{IsSymState-kept}
 use Rattle.wb_symstep.proofs.Stepping.{stepped_kept}
-use Rattle.wb_stepped.proofs.symstep.execute_tried.Goals as goal
+use Rattle.wb_executed.proofs.symstep.execute_tried.Goals as goal
 
 pub returns-in_err-last-clause-state : goal.returns-in_err-last-clause-state
 returns-in_err-last-clause-state g c =

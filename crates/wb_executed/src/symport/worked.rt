@@ -8,7 +8,8 @@ ghost use Rattle.wb_symstep.specs.State.{IsSymState};
 ghost use Rattle.wb_symstep.specs.Stepped.{IsStepped};
 
 use super::programs::{Held, PROGRAMS, Program, ROUNDS};
-use super::{image, value_of};
+use super::value_of;
+use crate::port::image_of;
 use std::alloc::Global;
 use std::process::Abort;
 use std::test::Fail;
@@ -326,7 +327,7 @@ fn sent(
     first: u8,
     second: u8,
 ) -> Result<(u16, u16, u16), Fail> {
-    let image = image(alloc, words)?;
+    let image = image_of(alloc, words)?;
     let mut graph = Graph::new(alloc, &image.drom, &image.drom)?;
     let mut bytes = [0; 16];
     bytes[0] = first;

@@ -1,17 +1,13 @@
-ghost use Rattle.std.specs.Prelude.{◌≡◌, ◌≤◌, IfOk, length};
-ghost use Rattle.wb_term.specs.Terms.{HasBit};
-ghost use Rattle.wb_symstep.specs.State.{IsSymState};
-ghost use Rattle.wb_point.specs.Shows.{SamePlace};
-
+//! Keys, dialogues by inputs, questions, and states merged by a condition.
+use crate::states::{three_kinds, two_states};
 use std::test::Fail;
-use wb_make::{mk_byte, mk_const, mk_pick};
 use wb_point::{
-    Accesses, FixedBit, FixedBits, OutOfMemory, Point, SymState, dialogue_of, inputs_of, merge,
-    normalise, same_key, same_place, shown,
+    Accesses, FixedBit, FixedBits, OutOfMemory, Point, dialogue_of, inputs_of, merge, normalise,
+    same_key, same_place, shown,
 };
 use wb_port::{Access, Dialogue, Kind, Kinds, Power};
-use wb_term::{BitId, Graph, Inputs, Scratch};
-use wb_word::{Rom, Side};
+use wb_term::{Inputs, Scratch};
+use wb_word::Side;
 
 /// Inputs whose bytes are 0x50, 0x51 and so on, over a start of sevens.
 fn inputs(rt: &HostRuntime) -> Result<Inputs, OutOfMemory> {
@@ -20,16 +16,6 @@ fn inputs(rt: &HostRuntime) -> Result<Inputs, OutOfMemory> {
         0x5F,
     ];
     Inputs::new(rt.alloc(), &bytes, &[7; 256])
-}
-
-fn kinds(rt: &HostRuntime) -> Result<Kinds, OutOfMemory>
-    ensures { IfOk result (λ kinds. length kinds ≡ 3) }
-{
-    let mut kinds = Kinds::new(rt.alloc());
-    kinds.push(Kind::Write)?;
-    kinds.push(Kind::Read)?;
-    kinds.push(Kind::Write)?;
-    Ok(kinds)
 }
 
 /// The first word of a dialogue's start, and its accesses.
@@ -41,9 +27,9 @@ fn parts(dialogue: &Dialogue) -> (u16, &[Access]) {
 fn dialogues_go_by_their_inputs(rt: HostRuntime) -> Result<(), Fail> {
     let given = inputs(&rt)?;
     let wanted = [Access::Write(0x50), Access::Read, Access::Write(0x52)];
-    let any = dialogue_of(rt.alloc(), &kinds(&rt)?, &given, Power::Any)?;
+    let any = dialogue_of(rt.alloc(), &three_kinds(rt.alloc())?, &given, Power::Any)?;
     assert_eq!(rt; parts(&any), (7, wanted.as_slice()));
-    let zero = dialogue_of(rt.alloc(), &kinds(&rt)?, &given, Power::Zero)?;
+    let zero = dialogue_of(rt.alloc(), &three_kinds(rt.alloc())?, &given, Power::Zero)?;
     assert_eq!(rt; parts(&zero), (0, wanted.as_slice()));
     let back = inputs_of(rt.alloc(), &any)?;
     assert_eq!(rt;
@@ -56,7 +42,7 @@ fn dialogues_go_by_their_inputs(rt: HostRuntime) -> Result<(), Fail> {
         ),
         (0x50, 0, 0x52, 0, 7)
     );
-    let normal = normalise(rt.alloc(), &given, &kinds(&rt)?, Power::Zero)?;
+    let normal = normalise(rt.alloc(), &given, &three_kinds(rt.alloc())?, Power::Zero)?;
     assert_eq!(rt;
         (
             normal.byte(0),
@@ -112,43 +98,9 @@ fn questions_have_lists(rt: HostRuntime) -> Result<(), Fail> {
     Ok(())
 }
 
-/// Two states that differ in A, which is 1 or 2, and a bit: the lowest of the first byte.
-#[derive(Drop)]
-struct Two {
-    graph: Graph,
-    low: BitId,
-    one: SymState,
-    two: SymState,
-}
-
-fn two_states(rt: &HostRuntime) -> Result<Two, OutOfMemory>
-    ensures low { IfOk result (λ t. HasBit t.graph t.low) }
-    ensures one { IfOk result (λ t. IsSymState t.graph t.one) }
-    ensures two { IfOk result (λ t. IsSymState t.graph t.two) }
-    ensures same { IfOk result (λ t. SamePlace t.one t.two) }
-    ensures short { IfOk result (λ t. length t.graph.nodes ≤ 32) }
-{
-    let table = Rom::zero(rt.alloc())?;
-    let mut graph = Graph::new(rt.alloc(), &table, &table)?;
-    let first = mk_const(&mut graph, 1)?;
-    let second = mk_const(&mut graph, 2)?;
-    let byte = mk_byte(&mut graph, 0)?;
-    let low = mk_pick(&mut graph, byte, 0)?;
-    let mut one = SymState::reset(&mut graph, rt.alloc())?;
-    one.a = first;
-    let mut two = one.share()?;
-    two.a = second;
-    Ok(Two {
-        graph,
-        low,
-        one,
-        two,
-    })
-}
-
 /// A in the state merged of two, under inputs with this first byte.
 fn merged_a(rt: &HostRuntime, first: u8) -> Result<u16, OutOfMemory> {
-    let mut t = two_states(rt)?;
+    let mut t = two_states(rt.alloc())?;
     let state = merge(&mut t.graph, rt.alloc(), t.low, &t.one, &t.two)?;
     let mut bytes = [0; 16];
     bytes[0] = first;
@@ -162,7 +114,7 @@ fn merged_a(rt: &HostRuntime, first: u8) -> Result<u16, OutOfMemory> {
 fn states_merge_by_a_condition(rt: HostRuntime) -> Result<(), Fail> {
     assert_eq!(rt; merged_a(&rt, 0xFF)?, 1);
     assert_eq!(rt; merged_a(&rt, 0xFE)?, 2);
-    let mut t = two_states(&rt)?;
+    let mut t = two_states(rt.alloc())?;
     assert_eq!(rt; same_place(&t.one, &t.two), true);
     t.two.pc = 1;
     assert_eq!(rt; (same_place(&t.one, &t.two), shown(&t.two).pc), (false, 1));

@@ -6,6 +6,7 @@ ghost use Rattle.wb_symstep.specs.Stepped.{IsStepped};
 mod programs;
 mod worked;
 
+use crate::port::image_of;
 use std::alloc::Global;
 use std::process::Abort;
 use std::test::Fail;
@@ -231,16 +232,6 @@ fn accesses_go_by_the_status_register(rt: HostRuntime) -> Result<(), Fail> {
 /// It moves a written word to the status register, so that DRC is a written bit.
 const WRITTEN_CONTROL: [u32; 6] = [0x000080, 0x97C004, 0x000097, 0x000080, 0x97C010, 0xA0000C];
 
-/// A program of these words.
-fn image(alloc: Global, words: &[u32]) -> Result<Image, Fail> {
-    let mut bytes = Vec::new(alloc);
-    for word in words {
-        bytes.extend_from_slice(&word.to_le_bytes()[..3])?;
-    }
-    bytes.resize(8192, 0)?;
-    Ok(Image::from_bytes(alloc, &bytes)?)
-}
-
 /// The one state that comes of a state.
 fn only(stepped: Stepped) -> Result<SymState, Fail>
     ensures { IfOk result (λ s. (g : Terms) → IsStepped g stepped → IsSymState g s) }
@@ -286,7 +277,7 @@ fn controlled(graph: &mut Graph, alloc: Global, image: &Image) -> Result<SymStat
 
 /// Whether the read forks, and what is seen after it, where the two bytes of the word were written.
 fn control_of(alloc: Global, low: u8, high: u8) -> Result<(bool, (bool, bool, u16)), Fail> {
-    let image = image(alloc, &WRITTEN_CONTROL)?;
+    let image = image_of(alloc, &WRITTEN_CONTROL)?;
     let mut graph = Graph::new(alloc, &image.drom, &image.drom)?;
     let state = controlled(&mut graph, alloc, &image)?;
     let (_, read) = sym_read(&mut graph, &state)?;
