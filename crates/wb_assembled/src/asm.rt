@@ -1,4 +1,4 @@
-use crate::repeated::repeated;
+use crate::repeated;
 use std::alloc::Global;
 use std::process::Abort;
 use std::test::Fail;

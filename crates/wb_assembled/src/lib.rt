@@ -1,7 +1,7 @@
 //! Tests of sources and listings: tokens, statements, the assembler, the disassembler.
 //!
 //! They stand in a crate of their own, so that the crates that they call are proved once and not again for their
-//! tests. Each test module has the name of the crate whose calls it tests; `repeated` has texts of equal lines.
+//! tests. Each test module has the name of the crate whose calls it tests; `texts` has texts of equal lines.
 #![tactic(auto)]
 
 #[cfg(test)]
@@ -10,8 +10,8 @@ mod asm;
 mod dis;
 #[cfg(test)]
 mod lex;
-mod repeated;
 #[cfg(test)]
 mod syntax;
+mod texts;
 
-pub use repeated::repeated;
+pub use texts::repeated;
