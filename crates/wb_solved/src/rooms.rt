@@ -79,10 +79,21 @@ fn rooms(at: usize) -> Rooms {
     }
 }
 
+/// The value of the bit.
+fn value_of(
+    rt: &HostRuntime,
+    term: &Term,
+    bytes: &[u8; 16],
+    cells: &[u16; 256],
+) -> Result<bool, Fail> {
+    let inputs = Inputs::new(rt.alloc(), bytes, cells)?;
+    let mut scratch = Scratch::for_graph(rt.alloc(), &term.graph)?;
+    Ok(term.graph.value_bit(term.c, &inputs, &mut scratch))
+}
+
 /// Whether the bit has the value of its formula under random inputs.
 fn holds(rt: &HostRuntime, term: &Term, rooms: Rooms, draws: &mut Draws) -> Result<bool, Fail> {
     let made = blast_within(rt.alloc(), &term.graph, term.c, 1 << 20, rooms)?;
-    let mut scratch = Scratch::for_graph(rt.alloc(), &term.graph)?;
     let mut bytes = [0u8; 16];
     let mut cells = [0u16; 256];
     let mut holds = true;
@@ -90,8 +101,7 @@ fn holds(rt: &HostRuntime, term: &Term, rooms: Rooms, draws: &mut Draws) -> Resu
         bytes[15] = draws.below(256) as u8;
         cells[7] = draws.below(65536) as u16;
         cells[255] = draws.below(65536) as u16;
-        let inputs = Inputs::new(rt.alloc(), &bytes, &cells)?;
-        let value = term.graph.value_bit(term.c, &inputs, &mut scratch);
+        let value = value_of(rt, term, &bytes, &cells)?;
         holds &= is_satisfied(rt, &made, &bytes, &cells)? == value;
     }
     Ok(holds)
