@@ -9,7 +9,7 @@ pub fn repeated(alloc: Global, text: &[u8], count: usize) -> Result<Vec<u8>, All
     ensures { IfOk result (λ whole. whole.items ≡ times count text.now) }
 {
     let mut whole = Vec::new(alloc);
-    for _ in 0..count {
+    for _said in 0..count {
         whole.extend_from_slice(text)?;
     }
     Ok(whole)
