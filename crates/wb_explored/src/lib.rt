@@ -4,8 +4,9 @@
 //!
 //! `exploring` leads an exploration through the kinds of a dialogue, one transfer after the other; `counting` counts
 //! how often an oracle is asked. `purses` has tests of reached points and purses, `replies` and `compare` those of the
-//! crates of these names. In `tests`, `cases` has the programs, `enumeration` the dialogues that are tried one by one, `points` and `requests`
-//! compare what the explorer found with what these dialogues do, and `oracles` has oracles that spend, and that lie.
+//! crates of these names. In `tests`, `cases` has the programs, `enumeration` the dialogues that are tried one by one,
+//! `points` and `requests` compare what the explorer found with what these dialogues do, and `oracles` has oracles that
+//! spend, and that lie.
 #![tactic(auto)]
 
 #[cfg(test)]
