@@ -1,9 +1,25 @@
 // Points on a program that waits in eight words, at a pace of five: what their held chips do next, and their ranks.
-use crate::tests::{EIGHT_WORDS, image_of};
 use crate::{Class, class_at, rank_at};
+use std::alloc::Global;
+use std::process::Abort;
 use std::test::Fail;
 use wb_port::{Kinds, Point};
-use wb_word::Side;
+use wb_rom::Image;
+use wb_word::{OutOfMemory, Side};
+
+/// A byte is given back, and the chip waits for it in a loop of eight words.
+const EIGHT_WORDS: [u32; 14] = [
+    0xC10007, 0x000080, 0, 0, 0, 0, 0, 0, 0, 0x97C008, 0x000091, 0x000016, 0x97C030, 0xA00004,
+];
+
+fn image_of(rt: &impl Abort, alloc: Global, words: &[u32]) -> Result<Image, OutOfMemory> {
+    let mut image = Image::zero(alloc)?;
+    for (at, word) in words.iter().enumerate() {
+        assert!(rt; at < 2048 && *word < 1 << 24);
+        image.prog.set(at, *word);
+    }
+    Ok(image)
+}
 
 /// Count, PC, whether a request is asked, whether it stands; then the class and the rank. The wait begins at 2,
 /// and its test stands at 9; the word at 10 reads DR.
@@ -22,7 +38,7 @@ const ROWS: &[(u16, u16, bool, bool, Class, u32)] = &[
 #[test]
 fn points_have_their_class_and_rank(rt: HostRuntime) -> Result<(), Fail> {
     let alloc = rt.alloc();
-    let image = image_of(alloc, EIGHT_WORDS)?;
+    let image = image_of(&rt, alloc, &EIGHT_WORDS)?;
     for (count, pc, asked, rqm, class, rank) in ROWS {
         let point = Point {
             side: Side::A,
