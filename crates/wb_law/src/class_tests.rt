@@ -1,24 +1,24 @@
 // Points on a program that waits in eight words, at a pace of five: what their held chips do next, and their ranks.
 use crate::{Class, class_at, rank_at};
 use std::alloc::Global;
-use std::process::Abort;
 use std::test::Fail;
 use wb_port::{Kinds, Point};
 use wb_rom::Image;
-use wb_word::{OutOfMemory, Side};
+use wb_word::Side;
 
 /// A byte is given back, and the chip waits for it in a loop of eight words.
 const EIGHT_WORDS: [u32; 14] = [
     0xC10007, 0x000080, 0, 0, 0, 0, 0, 0, 0, 0x97C008, 0x000091, 0x000016, 0x97C030, 0xA00004,
 ];
 
-fn image_of(rt: &impl Abort, alloc: Global, words: &[u32]) -> Result<Image, OutOfMemory> {
-    let mut image = Image::zero(alloc)?;
-    for (at, word) in words.iter().enumerate() {
-        assert!(rt; at < 2048 && *word < 1 << 24);
-        image.prog.set(at, *word);
+/// The image with these words, and zeros after them.
+fn image_of(alloc: Global, words: &[u32]) -> Result<Image, Fail> {
+    let mut bytes = Vec::new(alloc);
+    for word in words {
+        bytes.extend_from_slice(&word.to_le_bytes()[..3])?;
     }
-    Ok(image)
+    bytes.resize(8192, 0)?;
+    Ok(Image::from_bytes(alloc, &bytes)?)
 }
 
 /// Count, PC, whether a request is asked, whether it stands; then the class and the rank. The wait begins at 2,
@@ -38,7 +38,7 @@ const ROWS: &[(u16, u16, bool, bool, Class, u32)] = &[
 #[test]
 fn points_have_their_class_and_rank(rt: HostRuntime) -> Result<(), Fail> {
     let alloc = rt.alloc();
-    let image = image_of(&rt, alloc, &EIGHT_WORDS)?;
+    let image = image_of(alloc, &EIGHT_WORDS)?;
     for (count, pc, asked, rqm, class, rank) in ROWS {
         let point = Point {
             side: Side::A,
