@@ -1,8 +1,8 @@
 -- The bits of the number of a word.
-use Rattle.std.proofs.Common.{◌==◌, ◌≡◌, ◌≢◌, ℕ, zero, suc, ◌+◌, ◌-◌, ◌*◌, ◌/◌, ◌%◌, ◌^◌, ◌<◌, ◌≤◌, Bool, true, false, not, ◌&&◌, ◌||◌, if◌then◌else◌, min, max, List, [], ◌∷◌, length, set, slice_index, refl, sym, ◌∙◌, ap, ap₂, inl, inr, arith, get_or-set_other, get_or-set_same, below_more}
+use Rattle.std.proofs.Common.{◌==◌, ◌≡◌, ◌≢◌, ℕ, zero, suc, ◌+◌, ◌-◌, ◌*◌, ◌/◌, ◌%◌, ◌^◌, ◌<◌, ◌≤◌, nat_lt, Bool, true, false, not, ◌&&◌, ◌||◌, if◌then◌else◌, min, max, List, [], ◌∷◌, length, set, slice_index, refl, sym, ◌∙◌, ap, ap₂, subst, inl, inr, arith, get_or-set_other, get_or-set_same, below_more}
 use Rattle.std.proofs.Math.ListN.{length-set}
 use Rattle.std.proofs.Math.Nat.{pow-suc}
-use Rattle.std.proofs.lemmas.Bool.{cases_lt}
+use Rattle.std.proofs.lemmas.Bool.{cases_eq, cases_lt, lt-ltb, le-ltb}
 use Rattle.std.proofs.lemmas.Nat.Bits.{bit_at_lowest, bit_at-suc, bit_at_and, bit_at_or, bit_at_xor, bit_at_above, bit_at-lt, same_from_bits}
 use Rattle.std.specs.Bool.{beq}
 use Rattle.std.specs.Int.{bit_at}
@@ -12,7 +12,7 @@ use Rattle.wb_vector.specs.declared.bitwise.Operation.TheVariants.{And, Or, Xor,
 use Rattle.wb_diagram.specs.Forest.{Forest, HasDiagram}
 use Rattle.wb_diagram.specs.Growth.{Grown}
 use Rattle.wb_diagram.specs.Values.{value, IsFunction}
-use Rattle.wb_vector.specs.Operations.{on_bits, on_numbers, OperationThere, Combined, Inverted}
+use Rattle.wb_vector.specs.Operations.{on_bits, on_numbers, OperationThere, Combined, Inverted, Named}
 use Rattle.wb_vector.specs.Vectors.{bit, number, number_of, diagram_at, AreThere}
 use Rattle.wb_vector.proofs.Words.{none, grown_more, there_kept, there_set, number_lt}
 
@@ -173,3 +173,25 @@ known_number v f ds n in_ds small each = same_from_bits (number v f ds) n (λ i.
   | inl h ↦ number_bit v f ds i (omega (arith, h, in_ds)) ∙ ap bit (each i h) ∙ bit_of_bit (bit_at n i) (bit_at-lt n i)
   | inr h ↦ number_above v f ds i (omega (arith, h, in_ds)) ∙ sym (bit_at_above n 16 i small h)
 ])
+
+-- the lowest diagrams are those of variables
+bit_same : (b c : Bool) (m n : ℕ) → b ≡ c → m ≡ n → bit b + 2 * m ≡ bit c + 2 * n
+bit_same b c m n e g = ap₂ (λ (a : Bool) (k : ℕ). bit a + 2 * k) e g
+
+spelled : (v : ℕ → Bool) (f : Forest) (ds : List Diagram) (names : List ℕ) → length names ≤ length ds →
+    ((k : ℕ) → k < length names → value v f (diagram_at ds k) ≡ v (slice_index names k)) →
+    ((k : ℕ) → length names ≤ k → k < length ds → value v f (diagram_at ds k) ≡ false) → number v f ds ≡ number_of v names
+spelled v f [] [] few each above = refl
+spelled v f [] (x ∷ names) few each above = absurd (omega (arith, few))
+spelled v f (d ∷ ds) [] few each above =
+    bit_same (value v f d) false (number v f ds) 0 (above 0 (omega arith) (omega arith))
+    (spelled v f ds [] (omega arith) (λ k h. absurd (omega (arith, h))) (λ k h l. above (suc k) (omega arith) (omega (arith, l))))
+spelled v f (d ∷ ds) (x ∷ names) few each above =
+    bit_same (value v f d) (v x) (number v f ds) (number_of v names) (each 0 (omega arith))
+    (spelled v f ds names (omega (arith, few)) (λ k h. each (suc k) (omega (arith, h))) (λ k h l. above (suc k) (omega (arith, h)) (omega (arith, l))))
+
+pub named_number : (v : ℕ → Bool) (f : Forest) (ds : List Diagram) (names : List ℕ) (at : ℕ) → at ≡ length names → at ≤ length ds →
+    ((k : ℕ) → k < length ds → value v f (diagram_at ds k) ≡ (if nat_lt k at then v (slice_index names k) else false)) → number v f ds ≡ number_of v names
+named_number v f ds names at same few each = spelled v f ds names (omega (arith, same, few))
+    (λ k h. each k (omega (arith, h, same, few)) ∙ ap (λ (b : Bool). if b then v (slice_index names k) else false) (lt-ltb k at (omega (arith, h, same))))
+    (λ k h l. each k l ∙ ap (λ (b : Bool). if b then v (slice_index names k) else false) (le-ltb k at (omega (arith, h, same))))

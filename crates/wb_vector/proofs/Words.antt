@@ -1,8 +1,8 @@
 -- Words that are kept, filled and changed at a place.
-use Rattle.std.proofs.Common.{◌≡◌, ℕ, ◌+◌, ◌*◌, ◌^◌, ◌<◌, ◌≤◌, suc, Bool, true, false, List, [], ◌∷◌, length, set, replicate, get_or, refl, sym, ◌∙◌, ap, ap₂, subst, inl, inr, arith, get_or-set_other, get_or-set_same}
-use Rattle.std.proofs.Math.Nat.{pow-suc}
+use Rattle.std.proofs.Common.{◌≡◌, ℕ, ◌+◌, ◌*◌, ◌^◌, ◌<◌, ◌≤◌, suc, Bool, true, false, List, [], ◌∷◌, ◌++◌, length, take, set, replicate, get_or, refl, sym, ◌∙◌, ap, ap₂, subst, inl, inr, arith, get_or-set_other, get_or-set_same}
+use Rattle.std.proofs.Math.Nat.{pow-suc, pow-le-pow_right}
 use Rattle.std.proofs.lemmas.Bool.{cases_eq, cases_lt}
-use Rattle.std.proofs.lemmas.List.{get_or-replicate, get_or_past, length-replicate}
+use Rattle.std.proofs.lemmas.List.{get_or-replicate, get_or_past, length-replicate, take_more, length-take, take_all}
 use Rattle.wb_diagram.specs.declared.nodes.Diagram.{Diagram}
 use Rattle.wb_diagram.specs.Forest.{Forest, HasDiagram}
 use Rattle.wb_diagram.specs.Growth.{Grown}
@@ -59,3 +59,34 @@ number_lt v f (d ∷ ds) =
 
 pub number_small : (v : ℕ → Bool) (f : Forest) (ds : List Diagram) → length ds ≡ 16 → number v f ds < 65536
 number_small v f ds h = subst (λ n. number v f ds < 2 ^ n) h (number_lt v f ds)
+
+-- the lowest diagrams of a word
+pushed : (a b m n P Q : ℕ) → m ≡ n + b * P → Q ≡ P * 2 → a + 2 * m ≡ (a + 2 * n) + b * Q
+pushed a b m n P Q e q = rw q (rw e (grind arith))
+
+number_push : (v : ℕ → Bool) (f : Forest) (ds : List Diagram) (d : Diagram) → number v f (ds ++ d ∷ []) ≡ number v f ds + bit (value v f d) * 2 ^ length ds
+number_push v f [] d = grind arith
+number_push v f (x ∷ xs) d =
+    pushed (bit (value v f x)) (bit (value v f d)) (number v f (xs ++ d ∷ [])) (number v f xs) (2 ^ length xs) (2 ^ length (x ∷ xs))
+    (number_push v f xs d) (pow-suc 2 (length xs))
+
+pub number_taken : (v : ℕ → Bool) (f : Forest) (ds : List Diagram) (at : ℕ) → at < length ds →
+    number v f (take (at + 1) ds) ≡ number v f (take at ds) + bit (value v f (diagram_at ds at)) * 2 ^ at
+number_taken v f ds at h =
+    ap (number v f) (take_more ds at none h) ∙ number_push v f (take at ds) (diagram_at ds at)
+    ∙ (let short : length (take at ds) ≡ at = grind (arith, length-take) in ap (λ n. number v f (take at ds) + bit (value v f (diagram_at ds at)) * 2 ^ n) short)
+
+-- a number that is known for the lowest diagrams is known for one more
+pub taken_more : (v : ℕ → Bool) (f : Forest) (ds : List Diagram) (at word more : ℕ) (b : Bool) → at < length ds →
+    number v f (take at ds) ≡ word → value v f (diagram_at ds at) ≡ b → more ≡ word + bit b * 2 ^ at → number v f (take (at + 1) ds) ≡ more
+taken_more v f ds at word more b h before here is =
+    number_taken v f ds at h ∙ ap₂ (λ (n : ℕ) (c : Bool). n + bit c * 2 ^ at) before here ∙ sym is
+
+pub taken_all : (v : ℕ → Bool) (f : Forest) (ds : List Diagram) (at word : ℕ) → length ds ≤ at → number v f (take at ds) ≡ word → number v f ds ≡ word
+taken_all v f ds at word h e = ap (number v f) (sym (take_all at ds h)) ∙ e
+
+pub pow_next : (at : ℕ) → 2 ^ (at + 1) ≡ 2 ^ at * 2
+pow_next at = let one : at + 1 ≡ suc at = omega arith in ap (λ n. 2 ^ n) one ∙ pow-suc 2 at
+
+pub pow_few : (at : ℕ) → at < 16 → 2 ^ at ≤ 32768
+pow_few at h = let more : 2 ^ at ≤ 2 ^ 15 = pow-le-pow_right {n = 2} (omega arith) (let few : at ≤ 15 = omega (arith, h) in few) in omega (arith, more)

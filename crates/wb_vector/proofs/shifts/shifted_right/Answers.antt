@@ -1,0 +1,15 @@
+use Rattle.std.proofs.Common.{◌*◌, ◌/◌, ◌%◌, ◌^◌, arith}
+use Rattle.wb_vector.specs.Vectors.{number}
+use Rattle.wb_vector.proofs.Bits.{known_number}
+use Rattle.wb_vector.proofs.Moves.{halves_small}
+use Rattle.wb_vector.proofs.shifts.shifted_right.Goals as goal
+
+pub returns : goal.returns
+returns c =
+    let test = c.loop-at-test.false in
+    let is = c.loop-at.invariant in
+    record {
+      there = is.there;
+      value = λ v. known_number v c.args.diagrams.now c.loop-at.done (number v c.args.diagrams.now c.args.x.now / 2 ^ c.args.count) is.count
+          (halves_small v c.args.diagrams.now c.args.x.now c.args.count c.told-x) (λ k h. is.value v k (omega (arith, h, test)));
+    }
