@@ -1,18 +1,18 @@
 -- The bits of the number of a word.
-use Rattle.std.proofs.Common.{◌==◌, ◌≡◌, ◌≢◌, ℕ, zero, suc, ◌+◌, ◌-◌, ◌*◌, ◌/◌, ◌%◌, ◌^◌, ◌<◌, ◌≤◌, nat_lt, Bool, true, false, not, ◌&&◌, ◌||◌, if◌then◌else◌, min, max, List, [], ◌∷◌, length, set, slice_index, refl, sym, ◌∙◌, ap, ap₂, subst, inl, inr, arith, get_or-set_other, get_or-set_same, below_more}
+use Rattle.std.proofs.Common.{◌==◌, ◌≡◌, ◌≢◌, ℕ, zero, suc, ◌+◌, ◌-◌, ◌*◌, ◌/◌, ◌%◌, ◌^◌, ◌<◌, ◌≤◌, nat_lt, Bool, true, false, not, ◌&&◌, ◌||◌, if◌then◌else◌, min, max, List, [], ◌∷◌, length, set, slice_index, refl, sym, ◌∙◌, ap, ap₂, inl, inr, arith, get_or-set_other, get_or-set_same, below_more}
 use Rattle.std.proofs.Math.ListN.{length-set}
 use Rattle.std.proofs.Math.Nat.{pow-suc}
-use Rattle.std.proofs.lemmas.Bool.{cases_eq, cases_lt, lt-ltb, le-ltb}
+use Rattle.std.proofs.lemmas.Bool.{cases_lt, lt-ltb, le-ltb}
 use Rattle.std.proofs.lemmas.Nat.Bits.{bit_at_lowest, bit_at-suc, bit_at_and, bit_at_or, bit_at_xor, bit_at_above, bit_at-lt, same_from_bits}
 use Rattle.std.specs.Bool.{beq}
 use Rattle.std.specs.Int.{bit_at}
 use Rattle.wb_diagram.specs.declared.nodes.Diagram.{Diagram}
 use Rattle.wb_vector.specs.declared.bitwise.Operation.{Operation}
 use Rattle.wb_vector.specs.declared.bitwise.Operation.TheVariants.{And, Or, Xor, Choose}
-use Rattle.wb_diagram.specs.Forest.{Forest, HasDiagram}
+use Rattle.wb_diagram.specs.Forest.{Forest}
 use Rattle.wb_diagram.specs.Growth.{Grown}
 use Rattle.wb_diagram.specs.Values.{value, IsFunction}
-use Rattle.wb_vector.specs.Operations.{on_bits, on_numbers, OperationThere, Combined, Inverted, Named}
+use Rattle.wb_vector.specs.Operations.{on_bits, on_numbers, OperationThere, Combined, Inverted}
 use Rattle.wb_vector.specs.Vectors.{bit, number, number_of, diagram_at, AreThere}
 use Rattle.wb_vector.proofs.Words.{none, grown_more, there_kept, there_set, number_lt}
 

@@ -1,6 +1,6 @@
 -- The place that is looked up, bit by bit from the highest.
 use Rattle.std.proofs.Common.{◌≡◌, ℕ, ◌+◌, ◌-◌, ◌*◌, ◌%◌, ◌^◌, ◌<◌, Bool, true, false, true≢false, if◌then◌else◌, List, [], ◌∷◌, length, slice_index, refl, sym, ◌∙◌, ap, arith}
-use Rattle.std.proofs.Math.Nat.{add_comm, pow-suc}
+use Rattle.std.proofs.Math.Nat.{add_comm}
 use Rattle.std.proofs.lemmas.Bool.{and_parts}
 use Rattle.std.specs.Cmp.Lexicographic.{pointwise}
 use Rattle.std.proofs.lemmas.Grind.{common_steps}
@@ -11,7 +11,7 @@ use Rattle.wb_diagram.specs.Forest.{Forest}
 use Rattle.wb_diagram.specs.Growth.{Grown}
 use Rattle.wb_diagram.specs.Values.{value}
 use Rattle.wb_vector.specs.Vectors.{bit, number, diagram_at, AreThere, IsNumber}
-use Rattle.wb_vector.proofs.Words.{number_kept}
+use Rattle.wb_vector.proofs.Words.{number_kept, pow_next}
 use Rattle.wb_vector.proofs.Bits.{number_bit}
 
 -- the powers that a step deals with
@@ -23,10 +23,9 @@ pub record Halved (bits rest : ℕ) : Type 0 where
 pub halved_bits : (bits : ℕ) → 0 < bits → Halved bits (bits - 1)
 halved_bits bits h =
     let next : bits - 1 + 1 ≡ bits = omega (arith, h) in
-    let over : 1 + (bits - 1) ≡ bits = omega (arith, h) in
     record {
       next = next;
-      power = ap (λ n. 2 ^ n) (sym over) ∙ pow-suc 2 (bits - 1);
+      power = ap (λ n. 2 ^ n) (sym next) ∙ pow_next (bits - 1);
       some = pow_pos (bits - 1);
     }
 

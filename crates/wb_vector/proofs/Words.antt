@@ -1,8 +1,8 @@
 -- Words that are kept, filled and changed at a place.
 use Rattle.std.proofs.Common.{◌≡◌, ℕ, ◌+◌, ◌*◌, ◌^◌, ◌<◌, ◌≤◌, suc, Bool, true, false, List, [], ◌∷◌, ◌++◌, length, take, set, replicate, get_or, refl, sym, ◌∙◌, ap, ap₂, subst, inl, inr, arith, get_or-set_other, get_or-set_same}
-use Rattle.std.proofs.Math.Nat.{pow-suc, pow-le-pow_right}
+use Rattle.std.proofs.Math.Nat.{pow-suc}
 use Rattle.std.proofs.lemmas.Bool.{cases_eq, cases_lt}
-use Rattle.std.proofs.lemmas.List.{get_or-replicate, get_or_past, length-replicate, take_more, length-take, take_all}
+use Rattle.std.proofs.lemmas.List.{get_or-replicate, get_or_past, length-replicate, take_more, length-take}
 use Rattle.wb_diagram.specs.declared.nodes.Diagram.{Diagram}
 use Rattle.wb_diagram.specs.Forest.{Forest, HasDiagram}
 use Rattle.wb_diagram.specs.Growth.{Grown}
@@ -82,11 +82,5 @@ pub taken_more : (v : ℕ → Bool) (f : Forest) (ds : List Diagram) (at word mo
 taken_more v f ds at word more b h before here is =
     number_taken v f ds at h ∙ ap₂ (λ (n : ℕ) (c : Bool). n + bit c * 2 ^ at) before here ∙ sym is
 
-pub taken_all : (v : ℕ → Bool) (f : Forest) (ds : List Diagram) (at word : ℕ) → length ds ≤ at → number v f (take at ds) ≡ word → number v f ds ≡ word
-taken_all v f ds at word h e = ap (number v f) (sym (take_all at ds h)) ∙ e
-
 pub pow_next : (at : ℕ) → 2 ^ (at + 1) ≡ 2 ^ at * 2
 pow_next at = let one : at + 1 ≡ suc at = omega arith in ap (λ n. 2 ^ n) one ∙ pow-suc 2 at
-
-pub pow_few : (at : ℕ) → at < 16 → 2 ^ at ≤ 32768
-pow_few at h = let more : 2 ^ at ≤ 2 ^ 15 = pow-le-pow_right {n = 2} (omega arith) (let few : at ≤ 15 = omega (arith, h) in few) in omega (arith, more)

@@ -1,5 +1,5 @@
 -- Words of diagrams, the lowest bit first, and the numbers that they stand for.
-use Rattle.std.specs.Prelude.{◌≡◌, ℕ, ◌+◌, ◌*◌, ◌<◌, Bool, true, false, if◌then◌else◌, List, [], ◌∷◌, slice_index_or}
+use Rattle.std.specs.Prelude.{◌≡◌, ℕ, ◌+◌, ◌*◌, Bool, if◌then◌else◌, List, [], ◌∷◌, slice_index_or}
 use Rattle.wb_diagram.specs.declared.nodes.Diagram.{Diagram}
 use Rattle.wb_diagram.specs.Forest.{Forest, HasDiagram}
 use Rattle.wb_diagram.specs.Values.{value}

@@ -1,6 +1,5 @@
 use Rattle.std.proofs.Common.{arith}
 use Rattle.wb_vector.proofs.Bits.{operation_kept, combined_more, combined_number}
-use Rattle.wb_vector.proofs.Words.{there_kept}
 use Rattle.wb_vector.proofs.bitwise.combine_words.Goals as goal
 
 pub combine-requires-clause-operation_there : goal.combine-requires-clause-operation_there

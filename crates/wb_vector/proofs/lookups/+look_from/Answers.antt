@@ -1,8 +1,6 @@
-use Rattle.std.proofs.Common.{◌+◌, ◌-◌, ◌*◌, ◌%◌, ◌^◌, true, false, refl, ap, ◌∙◌, arith, rules}
+use Rattle.std.proofs.Common.{◌+◌, ◌-◌, ◌*◌, ◌%◌, ◌^◌, true, false, refl, ◌∙◌, arith, rules}
 use Rattle.std.proofs.lemmas.Result.{IfOk-weaker}
-use Rattle.wb_diagram.specs.Values.{value}
-use Rattle.wb_vector.specs.Vectors.{number}
-use Rattle.wb_vector.proofs.Looks.{halved_bits, looked_none, looked_known, looked_chosen}
+use Rattle.wb_vector.proofs.Looks.{halved_bits, looked_known, looked_chosen}
 use Rattle.wb_vector.proofs.Words.{there_kept}
 use Rattle.wb_vector.proofs.lookups.+look_from.Goals as goal
 
@@ -51,7 +49,7 @@ returns-in-Some-true-clause-means t c =
     IfOk-weaker c.look_from.result _ _
     (λ w is. looked_known c.args.diagrams.now c.look_from.new.diagrams c.args.x.now w c.args.words.now c.args.bits (c.args.bits - 1) c.args.first
       (c.args.first + 2 ^ (c.args.bits - 1)) (c.args.first + 1 * 2 ^ (c.args.bits - 1) % 18446744073709551616) true (omega (arith, few, some)) halved refl
-      c.in-Some-true.ensures.some (omega (arith, power, positive, within)) is)
+      (λ v. c.in-Some-true.ensures.some v ∙ c.in-Some-true.field-0-test) (omega (arith, power, positive, within)) is)
     c.look_from.ensures.means
 
 pub returns-in-Some-false-clause-means : goal.returns-in-Some-false-clause-means
@@ -62,7 +60,7 @@ returns-in-Some-false-clause-means t c =
     IfOk-weaker c.look_from-in-Some-false.result _ _
     (λ w is. looked_known c.args.diagrams.now c.look_from-in-Some-false.new.diagrams c.args.x.now w c.args.words.now c.args.bits (c.args.bits - 1) c.args.first
       (c.args.first + 2 ^ (c.args.bits - 1)) c.args.first false (omega (arith, few, some)) halved refl
-      c.in-Some-false.ensures.some refl is)
+      (λ v. c.in-Some-false.ensures.some v ∙ c.in-Some-false.field-0-test) refl is)
     c.look_from-in-Some-false.ensures.means
 
 pub returns-in_ok-low-in-None-clause-means : goal.returns-in_ok-low-in-None-clause-means

@@ -1,4 +1,4 @@
-use Rattle.std.proofs.Common.{◌≡◌, ℕ, ◌<◌, ◌*◌, ◌/◌, ◌%◌, ◌^◌, ◌==◌, Bool, length}
+use Rattle.std.proofs.Common.{◌≡◌, ℕ, ◌<◌, ◌*◌, ◌%◌, ◌^◌, ◌==◌, Bool, length}
 use Rattle.std.specs.Int.{bit_at}
 use Rattle.wb_diagram.specs.Values.{value}
 use Rattle.wb_vector.specs.Vectors.{number, diagram_at, AreThere}

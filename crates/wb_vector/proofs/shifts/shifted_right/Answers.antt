@@ -1,4 +1,4 @@
-use Rattle.std.proofs.Common.{◌*◌, ◌/◌, ◌%◌, ◌^◌, arith}
+use Rattle.std.proofs.Common.{◌/◌, ◌^◌, arith}
 use Rattle.wb_vector.specs.Vectors.{number}
 use Rattle.wb_vector.proofs.Bits.{known_number}
 use Rattle.wb_vector.proofs.Moves.{halves_small}
