@@ -42,7 +42,7 @@ pub values_more : (v : ℕ → Bool) (mid new : Forest) (done : List Diagram) (d
     (k : ℕ) → k < at + 1 → value v new (diagram_at (set done at d) k) ≡ is k
 values_more v mid new done d at is within grown there before here = below_more _ at
     (λ k h. let ne : k ≢ at = omega (arith, h) in
-      ap (value v new) (get_or-set_other done at k d none ne) ∙ grown.values v (diagram_at done k) (there k) ∙ before k h)
+    ap (value v new) (get_or-set_other done at k d none ne) ∙ grown.values v (diagram_at done k) (there k) ∙ before k h)
     (ap (value v new) (get_or-set_same done at d none within) ∙ here)
 
 -- an operation's bit is that of the bits

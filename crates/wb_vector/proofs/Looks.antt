@@ -49,8 +49,8 @@ pub looked_none : (v : ℕ → Bool) (f : Forest) (x : List Diagram) (words : Li
     slice_index words first ≡ slice_index words (first + number v f x % 2 ^ bits)
 looked_none v f x words bits first e =
     ap (slice_index words) (let none : number v f x % 2 ^ bits ≡ 0 = ap (λ b. number v f x % 2 ^ b) e ∙ mod_one (number v f x) in omega (arith, none)) where
-  mod_one : (n : ℕ) → n % 2 ^ 0 ≡ 0
-  mod_one n = omega arith
+      mod_one : (n : ℕ) → n % 2 ^ 0 ≡ 0
+      mod_one n = omega arith
 
 pub looked_known : (old new : Forest) (x w : List Diagram) (words : List ℕ) (bits rest first middle from : ℕ) (b : Bool) → rest < length x → Halved bits rest → middle ≡ first + 2 ^ rest →
     ((v : ℕ → Bool) → value v old (diagram_at x rest) ≡ b) → from ≡ (if b then middle else first) →
@@ -76,7 +76,7 @@ looked_chosen old mid new last x high low w words bits rest first middle within 
       ∙ ap (λ b. if b then number v new high else number v new low) same
       ∙ ap (λ h. if top then h else number v new low) (number_kept v mid new high two is_high.there ∙ is_high.value v)
       ∙ ap (λ l. if top then slice_index words (middle + number v old x % 2 ^ rest) else l)
-          (is_low.value v ∙ ap (λ n. slice_index words (first + n % 2 ^ rest)) (number_kept v old mid x one there))
+      (is_low.value v ∙ ap (λ n. slice_index words (first + n % 2 ^ rest)) (number_kept v old mid x one there))
       ∙ chosen_place words top first middle (number v old x % 2 ^ rest) (2 ^ rest) (number v old x % 2 ^ bits) is (low_bits v old x bits rest within halved.next);
 }
 

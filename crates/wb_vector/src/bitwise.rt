@@ -70,11 +70,7 @@ pub fn combine_words(
 }
 
 /// The word with each bit inverted.
-pub fn inverted(
-    diagrams: &mut Diagrams,
-    x: &Vector,
-    steps: &mut u32,
-) -> Result<Vector, Refused>
+pub fn inverted(diagrams: &mut Diagrams, x: &Vector, steps: &mut u32) -> Result<Vector, Refused>
     requires { AreThere diagrams.old x.now }
     ensures means { IfOk result (λ w. IsNumber diagrams.new w (λ v. 65535 - number v diagrams.old x.now)) }
     ensures grown { Grown diagrams.old diagrams.new }

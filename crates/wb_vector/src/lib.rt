@@ -17,3 +17,6 @@ pub use bitwise::{Operation, Vector, combine_words, constant_word, inverted, var
 pub use known::{bit_where, known_bit, known_word, word_where};
 pub use lookups::look;
 pub use shifts::{picked, shifted_left, shifted_right};
+
+#[cfg(test)]
+mod tests;

@@ -10,8 +10,8 @@ loop-at-preserved c =
     let within = c.loop-at-test.true in
     let full = c.told-x in
     let told = subst
-        (λ (f : Forest). (v : ℕ → Bool) → value v f c.args.condition ≡ true → value v f (diagram_at c.args.x.now c.loop-at.at) ≡ c.in_ok-bit.bit)
-        c.loop-at.invariant.same c.in_ok-bit.ensures.some in
+    (λ (f : Forest). (v : ℕ → Bool) → value v f c.args.condition ≡ true → value v f (diagram_at c.args.x.now c.loop-at.at) ≡ c.in_ok-bit.bit)
+    c.loop-at.invariant.same c.in_ok-bit.ensures.some in
     record {
       same = c.in_ok-bit.ensures.same ∙ c.loop-at.invariant.same;
       small = c.with_bit-word.ensures.small;
