@@ -21,3 +21,6 @@ pub use known::{bit_where, known_bit, known_word, word_where};
 pub use lookups::look;
 pub use shifts::{picked, shifted_left, shifted_right};
 pub use sums::{borrow_of, carry_of, difference_of, sum_of};
+
+#[cfg(test)]
+mod tests;
