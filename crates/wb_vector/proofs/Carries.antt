@@ -1,12 +1,12 @@
 -- Sums and differences of words, from their lowest bits on.
-use Rattle.std.proofs.Common.{◌≡◌, ℕ, zero, suc, ◌+◌, ◌-◌, ◌*◌, ◌%◌, ◌^◌, ◌<◌, ◌≤◌, Bool, true, false, not, ◌==◌, ◌&&◌, nat_lt, List, [], ◌∷◌, ◌++◌, length, take, set, refl, sym, ◌∙◌, ap, ap₂, subst, inl, inr, arith}
+use Rattle.std.proofs.Common.{◌≡◌, ℕ, zero, suc, ◌+◌, ◌-◌, ◌*◌, ◌%◌, ◌^◌, ◌<◌, ◌≤◌, Bool, true, false, ◌==◌, ◌&&◌, nat_lt, List, [], ◌∷◌, ◌++◌, length, take, set, refl, sym, ◌∙◌, ap, ap₂, subst, inl, inr, arith}
 use Rattle.std.proofs.Math.Nat.{pow-suc}
 use Rattle.std.proofs.Math.ListN.{length-set}
 use Rattle.std.proofs.lemmas.Bool.{cases_lt, lt-ltb, le-ltb}
 use Rattle.std.proofs.lemmas.List.{take_more, take_more_set, length-take, take_all}
 use Rattle.std.specs.Bool.{beq}
 use Rattle.wb_diagram.specs.declared.nodes.Diagram.{Diagram}
-use Rattle.wb_diagram.specs.Forest.{Forest, HasDiagram}
+use Rattle.wb_diagram.specs.Forest.{Forest}
 use Rattle.wb_diagram.specs.Growth.{Grown}
 use Rattle.wb_diagram.specs.Values.{value, IsFunction}
 use Rattle.wb_vector.specs.Sums.{differ, carry_bit, borrow_bit, Added, Subtracted, Carried, Borrowed, Agreeing}
