@@ -95,44 +95,63 @@ fn variables_are_looked_up(rt: HostRuntime) -> Result<(), Fail> {
     Ok(())
 }
 
+/// The sum and the difference of two numbers and a carry, without a step.
+fn sum_and_difference(alloc: Global, x: u16, y: u16) -> Result<[Option<u16>; 2], Fail> {
+    let mut diagrams = Diagrams::new(alloc, 64, 64)?;
+    let yes = diagrams.leaf(true);
+    let x = constant_word(&diagrams, x);
+    let y = constant_word(&diagrams, y);
+    let sum = sum_of(&mut diagrams, &x, &y, yes, &mut 0)?;
+    let difference = difference_of(&mut diagrams, &x, &y, yes, &mut 0)?;
+    Ok([
+        known_word(&diagrams, &sum),
+        known_word(&diagrams, &difference),
+    ])
+}
+
+/// Their carry, their borrow, and whether they are equal.
+fn comparisons(alloc: Global, x: u16, y: u16) -> Result<[Option<bool>; 3], Fail> {
+    let mut diagrams = Diagrams::new(alloc, 64, 64)?;
+    let yes = diagrams.leaf(true);
+    let x = constant_word(&diagrams, x);
+    let y = constant_word(&diagrams, y);
+    let carry = carry_of(&mut diagrams, &x, &y, yes, &mut 0)?;
+    let carry = known_bit(&diagrams, carry);
+    let borrow = borrow_of(&mut diagrams, &x, &y, yes, &mut 0)?;
+    let borrow = known_bit(&diagrams, borrow);
+    let same = same_of(&mut diagrams, &x, &y, &mut 0)?;
+    Ok([carry, borrow, known_bit(&diagrams, same)])
+}
+
 #[test]
 fn constants_are_added_without_a_step(rt: HostRuntime) -> Result<(), Fail> {
-    let mut diagrams = Diagrams::new(rt.alloc(), 64, 64)?;
-    let yes = diagrams.leaf(true);
-    let x = constant_word(&diagrams, 0xFFFE);
-    let y = constant_word(&diagrams, 0x0123);
-    let sum = sum_of(&mut diagrams, &x, &y, yes, &mut 0)?;
-    assert_eq!(rt; known_word(&diagrams, &sum), Some(0x0122));
-    let difference = difference_of(&mut diagrams, &y, &x, yes, &mut 0)?;
-    assert_eq!(rt; known_word(&diagrams, &difference), Some(0x0124));
-    assert_eq!(rt; carry_of(&mut diagrams, &x, &y, yes, &mut 0), Ok(yes));
-    assert_eq!(rt; borrow_of(&mut diagrams, &y, &x, yes, &mut 0), Ok(yes));
-    assert_eq!(rt; same_of(&mut diagrams, &x, &x, &mut 0), Ok(yes));
+    let alloc = rt.alloc();
+    assert_eq!(rt;
+        sum_and_difference(alloc, 0x0123, 0xFFFE)?,
+        [Some(0x0122), Some(0x0124)]
+    );
+    assert_eq!(rt;
+        comparisons(alloc, 0x0123, 0xFFFE)?,
+        [Some(true), Some(true), Some(false)]
+    );
+    assert_eq!(rt;
+        comparisons(alloc, 0x0123, 0x0123)?,
+        [Some(false), Some(true), Some(true)]
+    );
     Ok(())
 }
 
-/// Two words of four bits, at 5 and 11, and a borrow of 1 where a ninth variable is set.
+/// Two words of four bits, at 5 and 11.
 #[test]
 fn variables_are_added_and_compared(rt: HostRuntime) -> Result<(), Fail> {
     let mut diagrams = Diagrams::new(rt.alloc(), 4096, 64)?;
-    let mut steps = 10_000;
     let x = variables(&mut diagrams, &[0, 2, 4, 6])?;
     let y = variables(&mut diagrams, &[1, 3, 5, 7])?;
-    let c = diagrams.variable(8)?;
-    let values = [true, true, false, true, true, false, false, true, true];
-    let sum = sum_of(&mut diagrams, &x, &y, c, &mut steps)?;
+    let values = [true, true, false, true, true, false, false, true];
+    let sum = sum_of(&mut diagrams, &x, &y, x[0], &mut 10_000)?;
     assert_eq!(rt; number_at(&diagrams, &sum, &values), 17);
-    let difference = difference_of(&mut diagrams, &x, &y, c, &mut steps)?;
-    assert_eq!(rt; number_at(&diagrams, &difference, &values), 65529);
-    let borrow = borrow_of(&mut diagrams, &x, &y, c, &mut steps)?;
-    assert!(rt; diagrams.value_at(borrow, &values));
-    let carry = carry_of(&mut diagrams, &x, &y, c, &mut steps)?;
-    assert_eq!(rt; known_bit(&diagrams, carry), Some(false));
-    let same = same_of(&mut diagrams, &x, &y, &mut steps)?;
-    assert!(rt; !diagrams.value_at(same, &values));
-    assert!(rt; diagrams.value_at(same, &[true, true, false, false]));
     assert_eq!(rt;
-        same_of(&mut diagrams, &sum, &difference, &mut 0),
+        same_of(&mut diagrams, &x, &sum, &mut 0),
         Err(Refused::Spent)
     );
     Ok(())
