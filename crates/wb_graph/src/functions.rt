@@ -33,9 +33,9 @@ pub struct Functions {
     pub(crate) order: Order,
     rooms: Rooms,
     summaries: Vec<Summary>,
-    /// The first node of each function that a word has.
+    /// The newest node of each function that a word has.
     words: IndexMap<Vector, WordId>,
-    /// The first node of each function that a bit has.
+    /// The newest node of each function that a bit has.
     bits: IndexMap<Diagram, BitId>,
     /// What is left of all steps.
     steps: u32,
@@ -267,17 +267,13 @@ impl Functions {
     fn list_word(&mut self, word: Vector, id: WordId)
         ensures { self.new ≡ self.old }
     {
-        if self.words.get(&word).is_none() {
-            let _listed = self.words.insert(word, id).is_ok();
-        }
+        let _listed = self.words.insert(word, id).is_ok();
     }
 
     fn list_bit(&mut self, bit: Diagram, id: BitId)
         ensures { self.new ≡ self.old }
     {
-        if self.bits.get(&bit).is_none() {
-            let _listed = self.bits.insert(bit, id).is_ok();
-        }
+        let _listed = self.bits.insert(bit, id).is_ok();
     }
 
     /// Keeps what is known of the next word, unless memory is wanting or nothing is known of an earlier node.

@@ -11,7 +11,16 @@ use std::process::Abort;
 use std::test::Fail;
 
 /// Steps of which the last two make one function. The first of them has place 5.
-const EQUAL: [&[Step]; 9] = [
+const EQUAL: [&[Step]; 10] = [
+    // A newer node than one with an input more.
+    &[
+        Xor(X, Y),
+        Not(5),
+        Xor(6, Y),
+        Const(0xFFFF),
+        Not(X),
+        Diff(8, X, NO),
+    ],
     // Two comparisons in both orders.
     &[
         Const(3),
