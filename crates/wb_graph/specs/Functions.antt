@@ -55,6 +55,10 @@ pub record IsCombined (g : Terms) (old new : Forest) (operation : Operation) (x 
   pub value : (inputs : Assignment) → IsAssignment inputs → (w : ℕ → Bool) → IsWorld inputs g w →
       number w new ds ≡ on_numbers w old operation (word_value inputs g x) (word_value inputs g y)
 
+-- The same, where nothing of it is looked at.
+unfoldable pub IsInformed : Terms → Board → Type 0
+IsInformed g b = AreRight g b
+
 -- Diagrams were made, and what is known stayed.
 pub record Keeps (old new : Board) : Type 0 where
   pub grown : Grown old.forest new.forest

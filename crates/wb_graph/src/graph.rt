@@ -26,13 +26,13 @@ pub struct Graph {
 
 impl Model for Graph {
     ghost use Rattle.wb_term.specs.Terms.{Terms};
-    ghost use Rattle.wb_graph.specs.Functions.{AreRight};
+    ghost use Rattle.wb_graph.specs.Functions.{IsInformed};
 
     ghost Value = { Terms };
 
     ghost view = { λ g. g.terms };
 
-    ghost invariant = { λ g. AreRight g.terms g.functions };
+    ghost invariant = { λ g. IsInformed g.terms g.functions };
 }
 
 impl Graph {
@@ -50,6 +50,7 @@ impl Graph {
 
     /// A graph of no nodes over the data tables of two machines, with the order in which diagrams ask for bytes and
     /// what they may take.
+    #[tactic(auto, unfolding(crate::specs::Functions::IsInformed))]
     pub fn within(
         alloc: Global,
         a: &Rom<1024, 16>,
@@ -78,6 +79,7 @@ impl Graph {
     ///
     /// An older node is given only where no input stands under it that doesn't stand under the operands. A refusal
     /// changes nothing.
+    #[tactic(auto, unfolding(crate::specs::Functions::IsInformed))]
     pub fn word(&mut self, node: WordNode) -> Result<WordId, OutOfMemory>
         requires placed { IsWordPlaced self.old node }
         requires room { length self.old.nodes < 2 ^ 31 }
@@ -96,6 +98,7 @@ impl Graph {
     ///
     /// An older node is given only where no input stands under it that doesn't stand under the operands. A refusal
     /// changes nothing.
+    #[tactic(auto, unfolding(crate::specs::Functions::IsInformed))]
     pub fn bit(&mut self, node: BitNode) -> Result<BitId, OutOfMemory>
         requires placed { IsBitPlaced self.old node }
         requires room { length self.old.nodes < 2 ^ 31 }
