@@ -45,6 +45,10 @@ pub record AreRight (g : Terms) (b : Board) : Type 0 where
   pub few : length b.summaries ≤ length g.nodes
   pub at : (k : ℕ) (s : Summary) → slice_get b.summaries k ≡ Some s → IsSummary g b.forest k s
 
+-- all that is known is right, as one fact that isn't opened
+unfoldable pub IsInformed : Terms → Board → Type 0
+IsInformed g b = AreRight g b
+
 -- all that is known is right of some graph
 abbrev pub IsBoard : Board → Type 0
 IsBoard b = (g : Terms) × AreRight g b
@@ -54,10 +58,6 @@ pub record IsCombined (g : Terms) (old new : Forest) (operation : Operation) (x 
   pub there : AreThere new ds
   pub value : (inputs : Assignment) → IsAssignment inputs → (w : ℕ → Bool) → IsWorld inputs g w →
       number w new ds ≡ on_numbers w old operation (word_value inputs g x) (word_value inputs g y)
-
--- The same, where nothing of it is looked at.
-unfoldable pub IsInformed : Terms → Board → Type 0
-IsInformed g b = AreRight g b
 
 -- Diagrams were made, and what is known stayed.
 pub record Keeps (old new : Board) : Type 0 where

@@ -7,10 +7,9 @@
 //!
 //! `places` has which bytes stand under a node, `order` which variables the bits of bytes and of nodes have, `rooms`
 //! what diagrams may take, `summaries` what is known of a node, `functions` what is known of all of them, with `words`
-//! and `bits` for the functions of words and of bits, `under` which bytes stand under a node to be made, `alike` the choice
-//! between an older node, a constant and a new node, `graph` the graph, and `reading`
-//! what is read of it, as of its terms. `specs/Worlds.antt` says what the
-//! variables stand for, `specs/Functions.antt` what is right.
+//! and `bits` for the functions of words and of bits, `under` which bytes stand under a node to be made, `alike` the
+//! choice between an older node, a constant and a new node, `graph` the graph, and `reading` what is read of it, as of
+//! its terms. `specs/Worlds.antt` says what the variables stand for, `specs/Functions.antt` what is right.
 #![tactic(auto)]
 
 mod alike;
